@@ -1,0 +1,16 @@
+// The lowest library: note names, refusals, tokens and texts.
+mod buffers;
+pub mod exports;
+mod pitches;
+mod refusals;
+mod spellings;
+
+pub use pitches::Alteration;
+pub use pitches::Naming;
+pub use pitches::Pitch;
+pub use pitches::Step;
+pub use refusals::Fault;
+pub use refusals::Layer;
+pub use refusals::Refusal;
+pub use spellings::read_name;
+pub use spellings::write_name;
