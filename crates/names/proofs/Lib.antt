@@ -1,3 +1,4 @@
 pub mod Laying
 pub mod NameFacts
+pub mod Numbers
 pub mod Picks

@@ -1,5 +1,6 @@
 pub mod Buffers
 pub mod Choice
+pub mod Decimals
 pub mod Letters
 pub mod NameLaws
 pub mod Names

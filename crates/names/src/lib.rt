@@ -1,5 +1,6 @@
 // The lowest library: note names, refusals, tokens and texts.
 mod buffers;
+mod decimals;
 pub mod exports;
 mod pitches;
 mod refusals;
