@@ -1,6 +1,7 @@
 pub mod Buffers
 pub mod Choice
 pub mod Decimals
+pub mod Keywords
 pub mod Letters
 pub mod NameLaws
 pub mod Names

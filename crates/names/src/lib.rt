@@ -2,10 +2,12 @@
 mod buffers;
 mod decimals;
 pub mod exports;
+mod keywords;
 mod pitches;
 mod refusals;
 mod spellings;
 
+pub use keywords::Keyword;
 pub use pitches::Alteration;
 pub use pitches::Naming;
 pub use pitches::Pitch;
