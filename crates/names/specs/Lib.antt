@@ -1,6 +1,7 @@
 pub mod Buffers
 pub mod Choice
 pub mod Decimals
+pub mod Heard
 pub mod Keywords
 pub mod Letters
 pub mod NameLaws
@@ -8,3 +9,5 @@ pub mod Names
 pub mod Numbered
 pub mod Pitches
 pub mod Refusals
+pub mod Scanned
+pub mod Tokens

@@ -7,6 +7,7 @@ use lib.Chars.{codes}
 use lib.IntN.{ℤ, pos, negsuc}
 use Rattle.std.specs.declared.option.Option.{Option}
 use Rattle.std.specs.Joined.{joined}
+use Rattle.std.specs.shelf.Text.{sameBytes}
 use Rattle.names.specs.declared.pitches.Naming.{Naming}
 use Rattle.names.specs.declared.pitches.Naming.the-variants.{English, German}
 use Rattle.names.specs.declared.pitches.Step.{Step}
@@ -59,6 +60,10 @@ sameℤ (pos m) (pos n) = eqb m n
 sameℤ (pos m) (negsuc n) = false
 sameℤ (negsuc m) (pos n) = false
 sameℤ (negsuc m) (negsuc n) = eqb m n
+
+-- the naming that a word sets, if any
+abbrev pub namingNamed : List ℕ → Option Naming
+namingNamed bs = pick (λ n. sameBytes (namingWord n) bs) namings
 
 -- the naming, step and alteration that have a number, if any
 abbrev pub namingNumbered : ℕ → Option Naming

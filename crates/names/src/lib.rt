@@ -3,9 +3,11 @@ mod buffers;
 mod decimals;
 pub mod exports;
 mod keywords;
+mod notes;
 mod pitches;
 mod refusals;
 mod spellings;
+mod tokens;
 
 pub use keywords::Keyword;
 pub use pitches::Alteration;
@@ -17,3 +19,5 @@ pub use refusals::Layer;
 pub use refusals::Refusal;
 pub use spellings::read_name;
 pub use spellings::write_name;
+pub use tokens::Note;
+pub use tokens::Token;

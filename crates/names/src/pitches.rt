@@ -1,6 +1,6 @@
 // Pitches as they are written: a step of the scale and how it is altered. The numbers are those of the format.
 ghost use mathlib.Core.Path.{_≡_};
-ghost use Rattle.names.specs.Pitches.{namingNumber, namingNumbered, namingWord, stepNumber, stepNumbered, alterationNumber, alterationNumbered};
+ghost use Rattle.names.specs.Pitches.{namingNumber, namingNumbered, namingWord, namingNamed, stepNumber, stepNumbered, alterationNumber, alterationNumbered};
 
 // The list of names in which notes are read or written.
 #[derive(Clone, Copy, PartialEq, Eq, Debug)]
@@ -51,6 +51,17 @@ impl Naming {
         match number {
             0 => Some(Naming::English),
             1 => Some(Naming::German),
+            _ => None,
+        }
+    }
+
+    // The naming that a word sets.
+    pub fn named(word: &[u8]) -> Option<Naming>
+        ensures { λ r. ⌜ r ≡ namingNamed (now (word .entry)) ⌝ }
+    {
+        match word {
+            b"english" => Some(Naming::English),
+            b"german" => Some(Naming::German),
             _ => None,
         }
     }

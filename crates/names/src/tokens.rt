@@ -1,0 +1,159 @@
+// Tokens: the runs of bytes that a text is made of.
+ghost use mathlib.Core.Path.{_≡_};
+ghost use Prim.Native.Nat.{_+_, _≤_};
+ghost use lib.ListN.{length, drop};
+ghost use Rattle.std.specs.Results.{Cases};
+ghost use Rattle.names.specs.Heard.{heard, Borrows};
+ghost use Rattle.names.specs.Tokens.{gap, plain, each, colon, syllabled, syllableRead, noteRead, frameRead, tokenRead, lengthRead, ofLength, rest};
+use crate::decimals::read_number;
+use crate::keywords::Keyword;
+use crate::notes::scan;
+use crate::pitches::Naming;
+use crate::pitches::Pitch;
+use crate::refusals::Refusal;
+use crate::spellings::read_name;
+
+// A note, with its name as it was typed.
+#[derive(Clone, Copy)]
+pub struct Note<'a> {
+    pub name: &'a [u8],
+    pub pitch: Pitch,
+    pub octave: u8,
+    pub length: u8,
+}
+
+#[derive(Clone, Copy)]
+pub enum Token<'a> {
+    Naming(Naming),
+    Syllable(&'a [u8]),
+    Note(Note<'a>),
+    Rest { length: u8 },
+    Frame { keyword: Keyword, rank: u8 },
+}
+
+// Whether the bytes may stand between the quotes of a syllable.
+pub fn is_syllable(bytes: &[u8]) -> bool
+    ensures { λ r. ⌜ r ≡ syllabled (now (bytes .entry)) ⌝ }
+{
+    if bytes.len() < 1 || bytes.len() > 30 {
+        return false;
+    }
+    all_plain(bytes)
+}
+
+pub fn is_gap(byte: u8) -> bool
+    ensures { λ r. ⌜ r ≡ gap byte ⌝ }
+{
+    byte == b' ' || byte == b'\n'
+}
+
+fn is_plain(byte: u8) -> bool
+    ensures { λ r. ⌜ r ≡ plain byte ⌝ }
+{
+    byte != b'"' && !is_gap(byte)
+}
+
+fn all_plain(bytes: &[u8]) -> bool
+    ensures { λ r. ⌜ r ≡ each plain (now (bytes .entry)) ⌝ }
+{
+    for byte in bytes {
+        if !is_plain(*byte) {
+            return false;
+        }
+    }
+    true
+}
+
+fn read_syllable<'a>(bytes: &'a [u8]) -> Result<Token<'a>, Refusal>
+    ensures { λ r. ⌜ heard r ≡ syllableRead (now (bytes .entry)) ⌝ }
+{
+    let end = bytes.len();
+    if end < 2 || bytes[0] != b'"' || bytes[end - 1] != b'"' {
+        return Err(Refusal::NotOfForm);
+    }
+    let inside = &bytes[1..end - 1];
+    if is_syllable(inside) { Ok(Token::Syllable(inside)) } else { Err(Refusal::NotOfForm) }
+}
+
+fn read_note<'a>(naming: Option<Naming>, bytes: &'a [u8]) -> Result<Token<'a>, Refusal>
+    requires { ⌜ length (now bytes) ≤ 64 ⌝ }
+    ensures value { λ r. ⌜ heard r ≡ noteRead naming (now (bytes .entry)) ⌝ }
+    ensures borrows { λ r. ⌜ Cases r (Borrows (now (bytes .entry))) (λ _. Unit {0}) ⌝ }
+{
+    let Some(naming) = naming else {
+        return Err(Refusal::NoNaming);
+    };
+    let reader = scan(bytes);
+    let (name, tail) = bytes.split_at(reader.name);
+    let pitch = read_name(naming, name)?;
+    if !reader.is_struck() {
+        return Err(Refusal::BadOctaveOrLength);
+    }
+    let (_, digits) = tail.split_at(2);
+    let Some(length) = read_number(digits, 1, 64) else {
+        return Err(Refusal::BadOctaveOrLength);
+    };
+    Ok(Token::Note(Note { name, pitch, octave: reader.octave, length }))
+}
+
+fn read_rest<'a>(bytes: &'a [u8]) -> Result<Token<'a>, Refusal>
+    requires { ⌜ 2 ≤ length (now bytes) ⌝ }
+    ensures { λ r. ⌜ heard r ≡ ofLength (lengthRead (drop 2 (now (bytes .entry)))) rest ⌝ }
+{
+    let (_, digits) = bytes.split_at(2);
+    match read_number(digits, 1, 64) {
+        Some(length) => Ok(Token::Rest { length }),
+        None => Err(Refusal::BadOctaveOrLength),
+    }
+}
+
+// How many bytes stand before the first colon.
+fn before_colon(bytes: &[u8]) -> usize
+    ensures value { λ r. ⌜ r ≡ colon (now (bytes .entry)) ⌝ }
+    ensures within { λ r. ⌜ r ≤ length (now (bytes .entry)) ⌝ }
+{
+    for (at, byte) in bytes.iter().enumerate() {
+        if *byte == b':' {
+            return at;
+        }
+    }
+    bytes.len()
+}
+
+fn after_first(bytes: &[u8]) -> &[u8]
+    ensures { λ r. ⌜ now r ≡ drop 1 (now (bytes .entry)) ⌝ }
+{
+    match bytes.split_first() {
+        Some((_, rest)) => rest,
+        None => bytes,
+    }
+}
+
+fn read_frame<'a>(bytes: &'a [u8]) -> Result<Token<'a>, Refusal>
+    ensures { λ r. ⌜ heard r ≡ frameRead (now (bytes .entry)) ⌝ }
+{
+    let (word, rest) = bytes.split_at(before_colon(bytes));
+    match (Keyword::named(word), read_number(after_first(rest), 0, 255)) {
+        (Some(keyword), Some(rank)) => Ok(Token::Frame { keyword, rank }),
+        _ => Err(Refusal::NotOfForm),
+    }
+}
+
+// What the bytes say under the naming in force.
+pub fn read_token<'a>(naming: Option<Naming>, bytes: &'a [u8]) -> Result<Token<'a>, Refusal>
+    ensures value { λ r. ⌜ heard r ≡ tokenRead naming (now (bytes .entry)) ⌝ }
+    ensures borrows { λ r. ⌜ Cases r (Borrows (now (bytes .entry))) (λ _. Unit {0}) ⌝ }
+{
+    if bytes.len() > 64 {
+        return Err(Refusal::TokenTooLong);
+    }
+    if let Some(naming) = Naming::named(bytes) {
+        return Ok(Token::Naming(naming));
+    }
+    match bytes {
+        [b'"', ..] => read_syllable(bytes),
+        [b'A'..=b'Z', ..] => read_note(naming, bytes),
+        [b'r', b'/', ..] => read_rest(bytes),
+        _ => read_frame(bytes),
+    }
+}
