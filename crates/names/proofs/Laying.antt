@@ -7,7 +7,9 @@ use native.Mathlib.Numerals.{add-one}
 use lib.ListN.{length, take, drop, set, length-append, length-take, length-drop}
 use borrow.Rule.Slice.PartMut.{putMid}
 use Rattle.std.proofs.shelf.Lists.{append-assoc, drop-drop, take-at, drop-at, drop-append-le, length-take-le, set-split}
+use Rattle.std.specs.Written.{decimal}
 use Rattle.names.specs.Buffers.{laid}
+use Rattle.names.specs.Tokens.{quotes, marked}
 
 pub put-is : (out bs ys : List ℕ) (at : ℕ) → ys ≡ bs → putMid at (at + length bs - at) out ys ≡ laid out at bs
 put-is out bs ys at e =
@@ -44,3 +46,12 @@ pub laid-then : (out mid end xs ys zs : List ℕ) (at k : ℕ) → xs ++ ys ≡ 
 laid-then out mid end xs ys zs at k e ek h m r =
     let room : at + length (xs ++ ys) ≤ length out = rw e h in
     r ∙ ap (λ j. laid mid j ys) ek ∙ ap (λ o. laid o (at + length xs) ys) m ∙ laid-more out xs ys at room ∙ ap (laid out at) e
+
+pub length-marked : (bs : List ℕ) (mark n : ℕ) → length (marked bs mark n) ≡ length bs + 1 + length (decimal n)
+length-marked bs mark n = let e = length-append bs (mark ∷ decimal n) in omega arith
+
+pub length-quotes : (s : List ℕ) → length (quotes s) ≡ length s + 2
+length-quotes s = let e = length-append s (34 ∷ []) in omega arith
+
+pub room-for : (out : List ℕ) (at : ℕ) {bs cs : List ℕ} → bs ≡ cs → at + length cs ≤ length out → at + length bs ≤ length out
+room-for out at e h = let n = ap length e in omega arith

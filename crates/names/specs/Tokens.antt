@@ -17,6 +17,8 @@ use Rattle.names.specs.declared.pitches.Pitch.{Pitch}
 use Rattle.names.specs.declared.keywords.Keyword.{Keyword}
 use Rattle.names.specs.declared.refusals.Refusal.{Refusal}
 use Rattle.names.specs.declared.refusals.Refusal.the-variants.{TokenTooLong, NotOfForm, NoNaming, BadOctaveOrLength, BufferTooShort}
+use Rattle.names.specs.declared.tokens.Kind.{Kind}
+use Rattle.names.specs.declared.tokens.Kind.the-variants.{Syllable, Note, Rest, Frame}
 use Rattle.names.specs.Buffers.{fits, laid}
 use Rattle.names.specs.Choice.{pick}
 use Rattle.names.specs.Decimals.{numberRead}
@@ -49,13 +51,21 @@ abbrev pub run : (ℕ → Bool) → List ℕ → ℕ
 run test [] = 0
 run test (b ∷ bs) = cond (test b) (1 + run test bs) 0
 
+-- a syllable between its quotes
+abbrev pub quotes : List ℕ → List ℕ
+quotes s = 34 ∷ (s ++ 34 ∷ [])
+
+-- bytes, a mark and a number
+abbrev pub marked : List ℕ → ℕ → ℕ → List ℕ
+marked bs mark number = bs ++ (mark ∷ decimal number)
+
 -- the bytes of a token, its note's name taken from the naming
 unfoldable pub spelled : Naming → Said → List ℕ
 spelled n (naming m) = namingWord m
-spelled n (syllable s) = 34 ∷ (s ++ 34 ∷ [])
-spelled n (note p octave length) = name n p ++ ((48 + octave) ∷ 47 ∷ decimal length)
-spelled n (rest length) = codes "r/" ++ decimal length
-spelled n (frame k rank) = keywordWord k ++ (58 ∷ decimal rank)
+spelled n (syllable s) = quotes s
+spelled n (note p octave length) = marked (name n p ++ ((48 + octave) ∷ [])) 47 length
+spelled n (rest length) = marked (codes "r") 47 length
+spelled n (frame k rank) = marked (keywordWord k) 58 rank
 
 -- one to thirty bytes that may stand in a syllable
 abbrev pub syllabled : List ℕ → Bool
@@ -65,15 +75,19 @@ syllabled s = leb 1 (length s) && (leb (length s) 30 && each plain s)
 abbrev pub lasting : ℕ → Bool
 lasting length = leb 1 length && leb length 64
 
+-- an octave of one digit, and a length
+abbrev pub sung : ℕ → ℕ → Bool
+sung octave length = leb octave 9 && lasting length
+
 -- why a token cannot be written, if it cannot
 abbrev pub unless : Bool → Refusal → Option Refusal
 unless true r = None
 unless false r = Some r
 
-unfoldable pub malformed : Said → Option Refusal
+abbrev pub malformed : Said → Option Refusal
 malformed (naming n) = None
 malformed (syllable s) = unless (syllabled s) NotOfForm
-malformed (note p octave length) = unless (leb octave 9 && lasting length) BadOctaveOrLength
+malformed (note p octave length) = unless (sung octave length) BadOctaveOrLength
 malformed (rest length) = unless (lasting length) BadOctaveOrLength
 malformed (frame k rank) = unless (leb rank 255) NotOfForm
 
@@ -85,11 +99,14 @@ abbrev pub rankRead : List ℕ → Option ℕ
 rankRead bs = numberRead 0 255 bs
 
 -- a quote, the syllable, a quote
+abbrev pub quoted : List ℕ → Bool
+quoted bs = leb 2 (length bs) && (eqb (getD bs 0 0) 34 && eqb (getD bs (length bs - 1) 0) 34)
+
 abbrev pub inside : List ℕ → List ℕ
 inside bs = take (length bs - 2) (drop 1 bs)
 
 unfoldable pub syllableRead : List ℕ → Result Said Refusal
-syllableRead bs = cond (sameBytes (34 ∷ (inside bs ++ 34 ∷ [])) bs && syllabled (inside bs)) (Ok (syllable (inside bs))) (Err NotOfForm)
+syllableRead bs = cond (quoted bs && syllabled (inside bs)) (Ok (syllable (inside bs))) (Err NotOfForm)
 
 abbrev pub ofLength : Option ℕ → (ℕ → Said) → Result Said Refusal
 ofLength None says = Err BadOctaveOrLength
@@ -113,6 +130,10 @@ unfoldable pub noteRead : Option Naming → List ℕ → Result Said Refusal
 noteRead None bs = Err NoNaming
 noteRead (Some n) bs = ofPitch (pitchRead n (noteName bs)) (noteTail bs)
 
+-- r, a stroke, a length
+unfoldable pub restRead : List ℕ → Result Said Refusal
+restRead bs = ofLength (lengthRead (drop 2 bs)) rest
+
 -- a keyword, a colon, a rank
 abbrev pub colon : List ℕ → ℕ
 colon bs = run (λ b. not (eqb b 58)) bs
@@ -125,12 +146,21 @@ framed (Some k) (Some rank) = Ok (frame k rank)
 unfoldable pub frameRead : List ℕ → Result Said Refusal
 frameRead bs = framed (keywordNamed (take (colon bs) bs)) (rankRead (drop (colon bs + 1) bs))
 
+abbrev pub restBegun : List ℕ → Bool
+restBegun bs = leb 2 (length bs) && (eqb (getD bs 0 0) 114 && eqb (getD bs 1 0) 47)
+
 -- a token is judged by its beginning
-abbrev pub begun : Option Naming → List ℕ → Result Said Refusal
-begun n bs =
-    cond (eqb (getD bs 0 0) 34) (syllableRead bs)
-    (cond (asciiUpper (getD bs 0 0)) (noteRead n bs)
-    (cond (eqb (getD bs 0 0) 114 && eqb (getD bs 1 0) 47) (ofLength (lengthRead (drop 2 bs)) rest) (frameRead bs)))
+abbrev pub begun : List ℕ → Kind
+begun bs =
+    cond (eqb (getD bs 0 0) 34) Syllable
+    (cond (asciiUpper (getD bs 0 0)) Note
+    (cond (restBegun bs) Rest Frame))
+
+abbrev pub readAs : Kind → Option Naming → List ℕ → Result Said Refusal
+readAs Syllable n bs = syllableRead bs
+readAs Note n bs = noteRead n bs
+readAs Rest n bs = restRead bs
+readAs Frame n bs = frameRead bs
 
 abbrev pub worded : Option Naming → Result Said Refusal → Result Said Refusal
 worded None other = other
@@ -138,7 +168,7 @@ worded (Some n) other = Ok (naming n)
 
 -- what bytes say under the naming in force, if any
 unfoldable pub tokenRead : Option Naming → List ℕ → Result Said Refusal
-tokenRead n bs = cond (ltb 64 (length bs)) (Err TokenTooLong) (worded (namingNamed bs) (begun n bs))
+tokenRead n bs = cond (ltb 64 (length bs)) (Err TokenTooLong) (worded (namingNamed bs) (readAs (begun bs) n bs))
 
 -- the place behind a token that is written to a buffer, and the buffer then
 abbrev pub lengthened : Option Refusal → List ℕ → Result ℕ Refusal

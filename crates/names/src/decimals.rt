@@ -47,7 +47,8 @@ pub fn read_number(digits: &[u8], least: u8, most: u8) -> Option<u8>
 }
 
 pub fn decimal_length(number: u32) -> usize
-    ensures { λ r. ⌜ r ≡ length (decimal number) ⌝ }
+    ensures value { λ r. ⌜ r ≡ length (decimal number) ⌝ }
+    ensures few { λ r. ⌜ r ≤ 10 ⌝ }
 {
     if number < 10 { 1 } else { decimal_length(number / 10) + 1 }
 }

@@ -8,6 +8,7 @@ mod pitches;
 mod refusals;
 mod spellings;
 mod tokens;
+mod writing;
 
 pub use keywords::Keyword;
 pub use pitches::Alteration;

@@ -1,10 +1,9 @@
 // Tokens: the runs of bytes that a text is made of.
 ghost use mathlib.Core.Path.{_≡_};
-ghost use Prim.Native.Nat.{_+_, _≤_};
+ghost use Prim.Native.Nat.{_≤_};
 ghost use lib.ListN.{length, drop};
-ghost use Rattle.std.specs.Results.{Cases};
-ghost use Rattle.names.specs.Heard.{heard, Borrows};
-ghost use Rattle.names.specs.Tokens.{gap, plain, each, colon, syllabled, syllableRead, noteRead, frameRead, tokenRead, lengthRead, ofLength, rest};
+ghost use Rattle.names.specs.Heard.{Hears};
+ghost use Rattle.names.specs.Tokens.{gap, plain, each, colon, syllabled, quoted, syllableRead, noteRead, restRead, frameRead, restBegun, begun, tokenRead};
 use crate::decimals::read_number;
 use crate::keywords::Keyword;
 use crate::notes::scan;
@@ -12,6 +11,15 @@ use crate::pitches::Naming;
 use crate::pitches::Pitch;
 use crate::refusals::Refusal;
 use crate::spellings::read_name;
+
+// What the beginning of a token makes of it.
+#[derive(Clone, Copy)]
+pub enum Kind {
+    Syllable,
+    Note,
+    Rest,
+    Frame,
+}
 
 // A note, with its name as it was typed.
 #[derive(Clone, Copy)]
@@ -64,21 +72,26 @@ fn all_plain(bytes: &[u8]) -> bool
     true
 }
 
-fn read_syllable<'a>(bytes: &'a [u8]) -> Result<Token<'a>, Refusal>
-    ensures { λ r. ⌜ heard r ≡ syllableRead (now (bytes .entry)) ⌝ }
+fn is_quoted(bytes: &[u8]) -> bool
+    ensures { λ r. ⌜ r ≡ quoted (now (bytes .entry)) ⌝ }
 {
     let end = bytes.len();
-    if end < 2 || bytes[0] != b'"' || bytes[end - 1] != b'"' {
+    end >= 2 && bytes[0] == b'"' && bytes[end - 1] == b'"'
+}
+
+fn read_syllable<'a>(bytes: &'a [u8]) -> Result<Token<'a>, Refusal>
+    ensures { λ r. ⌜ Hears (now (bytes .entry)) r (syllableRead (now (bytes .entry))) ⌝ }
+{
+    if !is_quoted(bytes) {
         return Err(Refusal::NotOfForm);
     }
-    let inside = &bytes[1..end - 1];
+    let inside = &bytes[1..bytes.len() - 1];
     if is_syllable(inside) { Ok(Token::Syllable(inside)) } else { Err(Refusal::NotOfForm) }
 }
 
 fn read_note<'a>(naming: Option<Naming>, bytes: &'a [u8]) -> Result<Token<'a>, Refusal>
     requires { ⌜ length (now bytes) ≤ 64 ⌝ }
-    ensures value { λ r. ⌜ heard r ≡ noteRead naming (now (bytes .entry)) ⌝ }
-    ensures borrows { λ r. ⌜ Cases r (Borrows (now (bytes .entry))) (λ _. Unit {0}) ⌝ }
+    ensures { λ r. ⌜ Hears (now (bytes .entry)) r (noteRead naming (now (bytes .entry))) ⌝ }
 {
     let Some(naming) = naming else {
         return Err(Refusal::NoNaming);
@@ -98,7 +111,7 @@ fn read_note<'a>(naming: Option<Naming>, bytes: &'a [u8]) -> Result<Token<'a>, R
 
 fn read_rest<'a>(bytes: &'a [u8]) -> Result<Token<'a>, Refusal>
     requires { ⌜ 2 ≤ length (now bytes) ⌝ }
-    ensures { λ r. ⌜ heard r ≡ ofLength (lengthRead (drop 2 (now (bytes .entry)))) rest ⌝ }
+    ensures { λ r. ⌜ Hears (now (bytes .entry)) r (restRead (now (bytes .entry))) ⌝ }
 {
     let (_, digits) = bytes.split_at(2);
     match read_number(digits, 1, 64) {
@@ -130,30 +143,52 @@ fn after_first(bytes: &[u8]) -> &[u8]
 }
 
 fn read_frame<'a>(bytes: &'a [u8]) -> Result<Token<'a>, Refusal>
-    ensures { λ r. ⌜ heard r ≡ frameRead (now (bytes .entry)) ⌝ }
+    ensures { λ r. ⌜ Hears (now (bytes .entry)) r (frameRead (now (bytes .entry))) ⌝ }
 {
     let (word, rest) = bytes.split_at(before_colon(bytes));
-    match (Keyword::named(word), read_number(after_first(rest), 0, 255)) {
-        (Some(keyword), Some(rank)) => Ok(Token::Frame { keyword, rank }),
-        _ => Err(Refusal::NotOfForm),
+    let Some(keyword) = Keyword::named(word) else {
+        return Err(Refusal::NotOfForm);
+    };
+    let Some(rank) = read_number(after_first(rest), 0, 255) else {
+        return Err(Refusal::NotOfForm);
+    };
+    Ok(Token::Frame { keyword, rank })
+}
+
+fn begins_rest(bytes: &[u8]) -> bool
+    ensures { λ r. ⌜ r ≡ restBegun (now (bytes .entry)) ⌝ }
+{
+    bytes.len() >= 2 && bytes[0] == b'r' && bytes[1] == b'/'
+}
+
+fn begins(bytes: &[u8]) -> Kind
+    ensures { λ r. ⌜ r ≡ begun (now (bytes .entry)) ⌝ }
+{
+    if bytes.len() == 0 {
+        return Kind::Frame;
+    }
+    match bytes[0] {
+        b'"' => Kind::Syllable,
+        b'A'..=b'Z' => Kind::Note,
+        _ if begins_rest(bytes) => Kind::Rest,
+        _ => Kind::Frame,
     }
 }
 
 // What the bytes say under the naming in force.
 pub fn read_token<'a>(naming: Option<Naming>, bytes: &'a [u8]) -> Result<Token<'a>, Refusal>
-    ensures value { λ r. ⌜ heard r ≡ tokenRead naming (now (bytes .entry)) ⌝ }
-    ensures borrows { λ r. ⌜ Cases r (Borrows (now (bytes .entry))) (λ _. Unit {0}) ⌝ }
+    ensures { λ r. ⌜ Hears (now (bytes .entry)) r (tokenRead naming (now (bytes .entry))) ⌝ }
 {
     if bytes.len() > 64 {
         return Err(Refusal::TokenTooLong);
     }
-    if let Some(naming) = Naming::named(bytes) {
-        return Ok(Token::Naming(naming));
+    if let Some(set) = Naming::named(bytes) {
+        return Ok(Token::Naming(set));
     }
-    match bytes {
-        [b'"', ..] => read_syllable(bytes),
-        [b'A'..=b'Z', ..] => read_note(naming, bytes),
-        [b'r', b'/', ..] => read_rest(bytes),
-        _ => read_frame(bytes),
+    match begins(bytes) {
+        Kind::Syllable => read_syllable(bytes),
+        Kind::Note => read_note(naming, bytes),
+        Kind::Rest => read_rest(bytes),
+        Kind::Frame => read_frame(bytes),
     }
 }
