@@ -4,3 +4,4 @@ pub mod Numbers
 pub mod Picks
 pub mod Reading
 pub mod Scanning
+pub mod TokenFacts

@@ -10,4 +10,5 @@ pub mod Numbered
 pub mod Pitches
 pub mod Refusals
 pub mod Scanned
+pub mod TokenLaws
 pub mod Tokens
