@@ -1,4 +1,6 @@
+pub mod Cuts
 pub mod Laying
+pub mod Lines
 pub mod NameFacts
 pub mod Numbers
 pub mod Picks

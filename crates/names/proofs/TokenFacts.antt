@@ -39,7 +39,7 @@ use Rattle.names.proofs.Numbers.{reads-some, some-read}
 use Rattle.names.proofs.Picks.{pick-passes}
 use Rattle.names.proofs.Reading.{run-within, tail-long, note-tailed, frame-parts, token-naming, token-kind}
 
-formed : (t : Bool) (r : Refusal) → unless t r ≡ None → t ≡ true
+pub formed : (t : Bool) (r : Refusal) → unless t r ≡ None → t ≡ true
 formed true r e = refl
 formed false r e = absurd (grind arith)
 
@@ -88,7 +88,7 @@ length-short l t = let p = and-parts (leb 1 l) (leb l 64) t in let h = leb-true 
 rank-short : (r : ℕ) → leb r 255 ≡ true → length (decimal r) ≤ 3
 rank-short r t = let h = leb-true r 255 t in length-decimal-le 3 r (omega arith) (omega arith) (omega arith)
 
-naming-back : (n : Option Naming) (m : Naming) → tokenRead n (namingWord m) ≡ Ok (naming m)
+pub naming-back : (n : Option Naming) (m : Naming) → tokenRead n (namingWord m) ≡ Ok (naming m)
 unfolding tokenRead
 naming-back n English = refl
 naming-back n German = refl
@@ -227,7 +227,7 @@ module _ (bs : List ℕ) where
         let all = take-all (length (b ∷ xs) - 2 + 1) xs (omega arith) in
         ap (λ y. y ∷ (inside (b ∷ xs) ++ 34 ∷ [])) (sym first) ∙ ap (λ y. b ∷ (inside (b ∷ xs) ++ y ∷ [])) (sym end) ∙ ap (λ ys. b ∷ ys) (sym m ∙ all)
 
-abbrev Typed : Naming → List ℕ → Said → Type 0
+abbrev pub Typed : Naming → List ℕ → Said → Type 0
 Typed n bs t = (malformed t ≡ None) × (spelled n t ≡ bs)
 
 typed-at : (n : Naming) (bs : List ℕ) (t u : Said) → _≡_ {A = Result Said Refusal} (Ok u) (Ok t) → Typed n bs u → Typed n bs t
@@ -350,7 +350,7 @@ same n bs t e = by (ltb 64 (length bs)) e
     by true e = absurd (grind arith)
     by false e = as-word (namingNamed bs) refl e
 
-unset : (n : Naming) (bs : List ℕ) (t : Said) → tokenRead None bs ≡ Ok t → tokenRead (Some n) bs ≡ Ok t
+pub unset : (n : Naming) (bs : List ℕ) (t : Said) → tokenRead None bs ≡ Ok t → tokenRead (Some n) bs ≡ Ok t
 unfolding tokenRead noteRead
 unset n bs t e = by (ltb 64 (length bs)) e
   where

@@ -7,6 +7,7 @@ mod notes;
 mod pitches;
 mod refusals;
 mod spellings;
+mod texts;
 mod tokens;
 mod writing;
 

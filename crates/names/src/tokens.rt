@@ -3,6 +3,7 @@ ghost use mathlib.Core.Path.{_≡_};
 ghost use Prim.Native.Nat.{_≤_};
 ghost use lib.ListN.{length, drop};
 ghost use Rattle.names.specs.Heard.{Hears};
+ghost use Rattle.names.specs.TokenLaws.{TokenLaws};
 ghost use Rattle.names.specs.Tokens.{gap, plain, each, colon, syllabled, quoted, syllableRead, noteRead, restRead, frameRead, restBegun, begun, tokenRead};
 use crate::decimals::read_number;
 use crate::keywords::Keyword;
@@ -177,7 +178,8 @@ fn begins(bytes: &[u8]) -> Kind
 
 // What the bytes say under the naming in force.
 pub fn read_token<'a>(naming: Option<Naming>, bytes: &'a [u8]) -> Result<Token<'a>, Refusal>
-    ensures { λ r. ⌜ Hears (now (bytes .entry)) r (tokenRead naming (now (bytes .entry))) ⌝ }
+    ensures value { λ r. ⌜ Hears (now (bytes .entry)) r (tokenRead naming (now (bytes .entry))) ⌝ }
+    ensures laws { λ _. ⌜ TokenLaws ⌝ }
 {
     if bytes.len() > 64 {
         return Err(Refusal::TokenTooLong);
