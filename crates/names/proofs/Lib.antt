@@ -3,6 +3,7 @@ pub mod Laying
 pub mod Lines
 pub mod NameFacts
 pub mod Numbers
+pub mod Parting
 pub mod Picks
 pub mod Reading
 pub mod Scanning

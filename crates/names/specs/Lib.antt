@@ -9,6 +9,7 @@ pub mod Lines
 pub mod NameLaws
 pub mod Names
 pub mod Numbered
+pub mod Parted
 pub mod Pitches
 pub mod Reader
 pub mod Refusals

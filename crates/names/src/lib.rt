@@ -1,4 +1,4 @@
-// The lowest library: note names, refusals, tokens and texts.
+// The lowest library: note names, tokens, texts, and everything that the project refuses.
 mod buffers;
 mod decimals;
 pub mod exports;
@@ -12,14 +12,37 @@ mod tokens;
 mod writing;
 
 pub use keywords::Keyword;
+pub use keywords::KeywordDebug;
+pub use keywords::KeywordPartialEq;
 pub use pitches::Alteration;
+pub use pitches::AlterationDebug;
+pub use pitches::AlterationPartialEq;
 pub use pitches::Naming;
+pub use pitches::NamingDebug;
+pub use pitches::NamingPartialEq;
 pub use pitches::Pitch;
+pub use pitches::PitchDebug;
+pub use pitches::PitchPartialEq;
 pub use pitches::Step;
+pub use pitches::StepDebug;
+pub use pitches::StepPartialEq;
 pub use refusals::Fault;
+pub use refusals::FaultDebug;
+pub use refusals::FaultPartialEq;
 pub use refusals::Layer;
+pub use refusals::LayerDebug;
+pub use refusals::LayerPartialEq;
 pub use refusals::Refusal;
+pub use refusals::RefusalDebug;
+pub use refusals::RefusalPartialEq;
 pub use spellings::read_name;
 pub use spellings::write_name;
+pub use texts::Cut;
+pub use texts::Placed;
+pub use texts::Reader;
+pub use texts::next_cut;
 pub use tokens::Note;
 pub use tokens::Token;
+pub use tokens::read_token;
+pub use writing::token_length;
+pub use writing::write_token;

@@ -4,9 +4,11 @@ ghost use mathlib.Core.Bool.{not};
 ghost use Prim.Native.Nat.{ℕ, _+_, _<_, _≤_};
 ghost use lib.ListN.{length, drop};
 ghost use Rattle.names.specs.Cutting.{Skipped, Ended};
+ghost use Rattle.names.specs.Lines.{LineLaws};
+ghost use Rattle.names.specs.Parted.{Parted};
 ghost use Rattle.names.specs.Reader.{CutsFirst, unread, toldNext, opened, opening};
 ghost use Rattle.names.specs.Heard.{said};
-ghost use Rattle.names.specs.Texts.{firstOf, later, naming-after};
+ghost use Rattle.names.specs.Texts.{firstOf, later, naming-after, pieces};
 use crate::pitches::Naming;
 use crate::refusals::Fault;
 use crate::refusals::Refusal;
@@ -84,7 +86,9 @@ fn naming_after(naming: Option<Naming>, token: &Token) -> Option<Naming>
 impl<'a> Reader<'a> {
     // Before the first token. A text has at most 65,536 bytes.
     pub fn over(text: &'a [u8]) -> Result<Reader<'a>, Fault>
-        ensures { λ r. ⌜ opened r ≡ opening (now (text .entry)) ⌝ }
+        ensures value { λ r. ⌜ opened r ≡ opening (now (text .entry)) ⌝ }
+        ensures parted { λ _. ⌜ Parted 0 (now (text .entry)) (pieces 0 (now (text .entry))) ⌝ }
+        ensures lines { λ _. ⌜ LineLaws ⌝ }
     {
         if text.len() > 65536 {
             return Err(Fault { refusal: Refusal::TextTooLong, byte: 0 });
