@@ -55,3 +55,6 @@ length-quotes s = let e = length-append s (34 ∷ []) in omega arith
 
 pub room-for : (out : List ℕ) (at : ℕ) {bs cs : List ℕ} → bs ≡ cs → at + length cs ≤ length out → at + length bs ≤ length out
 room-for out at e h = let n = ap length e in omega arith
+
+pub laid-front : (out bs : List ℕ) → take (length bs) (laid out 0 bs) ≡ bs
+laid-front out bs = take-at bs (drop (0 + length bs) out) (length bs) refl

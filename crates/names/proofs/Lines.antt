@@ -28,7 +28,7 @@ use Rattle.names.specs.Keywords.{keywordWord}
 use Rattle.names.specs.Lines.{spaced, line, isWord, wordsOf, Typable, LineLaws}
 use Rattle.names.specs.Names.{name}
 use Rattle.names.specs.Pitches.{namingWord}
-use Rattle.names.specs.Texts.{Piece, Told, Telling, goesOn, pieces, told, telling, silent, stopped, naming-after, textTold}
+use Rattle.names.specs.Texts.{Piece, Told, Telling, goesOn, before, pieces, told, telling, silent, stopped, naming-after, textTold}
 use Rattle.names.specs.Tokens.{Said, naming, syllable, note, rest, frame, gap, plain, each, syllabled, lasting, sung, unless, malformed, quotes, marked, spelled, tokenRead}
 use Rattle.names.proofs.Cuts.{solid, piece-token, piece-gap, told-token}
 use Rattle.names.proofs.NameFacts.{whole}
@@ -105,6 +105,14 @@ word-keeps n (note p o l) e = refl
 word-keeps n (rest l) e = refl
 word-keeps n (frame k r) e = refl
 
+-- a token that can be written is short
+read-short : (n : Option Naming) (bs : List ℕ) (t : Said) → tokenRead n bs ≡ Ok t → length bs ≤ 64
+unfolding tokenRead
+read-short n bs t e = grind arith
+
+pub spelled-short : (n : Naming) (t : Said) → malformed t ≡ None → length (spelled n t) ≤ 64
+spelled-short n t e = read-short (Some n) (spelled n t) t (back n t e)
+
 -- what a telling of just these words has
 abbrev Tells : Telling → List Said → Type 0
 Tells x ts = (wordsOf (x .tokens) ≡ ts) × (x .fault ≡ None)
@@ -140,11 +148,11 @@ line-told n ts h =
     let i = spaced-told n ts (0 + length w) h in
     (ap (λ y. wordsOf (y .tokens)) e ∙ i .0, ap (λ y. y .fault) e ∙ i .1)
 
-typable-token : (n : Option Naming) (bs : List ℕ) (t : Said) → tokenRead n bs ≡ Ok t → malformed t ≡ None
+pub typable-token : (n : Option Naming) (bs : List ℕ) (t : Said) → tokenRead n bs ≡ Ok t → malformed t ≡ None
 typable-token None bs t e = same English bs t (unset English bs t e) .0
 typable-token (Some n) bs t e = same n bs t e .0
 
-told-typable : (ps : List Piece) (n : Option Naming) → All Typable (wordsOf (told n ps .tokens))
+pub told-typable : (ps : List Piece) (n : Option Naming) → All Typable (wordsOf (told n ps .tokens))
 unfolding told
 told-typable [] n = tt
 told-typable (p ∷ ps) n = by (tokenRead n (p .bytes)) refl (λ m. told-typable ps m)
@@ -156,6 +164,16 @@ told-typable (p ∷ ps) n = by (tokenRead n (p .bytes)) refl (λ m. told-typable
     by (Err f) e h = tt
     by (Ok t) e h = as-word t (isWord t) refl (typable-token n (p .bytes) t e) (wordsOf (told (naming-after n t) ps .tokens)) (h (naming-after n t))
 
+-- whatever is told could be written
+pub told-formed : (ps : List Piece) (n : Option Naming) → All (λ t. malformed (t .says) ≡ None) (told n ps .tokens)
+unfolding told
+told-formed [] n = tt
+told-formed (p ∷ ps) n = by (tokenRead n (p .bytes)) refl (λ m. told-formed ps m)
+  where
+    by : (r : Result Said Refusal) → tokenRead n (p .bytes) ≡ r → ((m : Option Naming) → All (λ t. malformed (t .says) ≡ None) (told m ps .tokens)) → All (λ t. malformed (t .says) ≡ None) (telling p n r (λ m. told m ps) .tokens)
+    by (Err f) e h = tt
+    by (Ok t) e h = (typable-token n (p .bytes) t e, h (naming-after n t))
+
 text-typable : (text : List ℕ) → All Typable (wordsOf (textTold text .tokens))
 text-typable text = by (ltb 65536 (length text))
   where
@@ -163,7 +181,7 @@ text-typable text = by (ltb 65536 (length text))
     by true = tt
     by false = told-typable (pieces 0 text) None
 
-text-short : (bs : List ℕ) → length bs ≤ 65536 → textTold bs ≡ told None (pieces 0 bs)
+pub text-short : (bs : List ℕ) → length bs ≤ 65536 → textTold bs ≡ told None (pieces 0 bs)
 text-short bs h = cond-false (ltb 65536 (length bs)) _ _ (le-ltb 65536 (length bs) h)
 
 pub line-laws : LineLaws
@@ -172,3 +190,34 @@ line-laws =
     { back = λ n ts h l. let e = text-short (line n ts) l in let t = line-told n ts h in (ap (λ x. wordsOf (x .tokens)) e ∙ t .0, ap (λ x. x .fault) e ∙ t .1)
     ; typable = text-typable
     }
+
+-- a text has no more tokens than bytes
+before-few : (t : Bool) (at b : ℕ) (ps : List Piece) → length (before t at b ps) ≤ length ps + 1
+before-few false at b ps = omega arith
+before-few true at b [] = omega arith
+before-few true at b (p ∷ ps) = omega arith
+
+pieces-few : (bs : List ℕ) (at : ℕ) → length (pieces at bs) ≤ length bs
+unfolding pieces
+pieces-few [] at = omega arith
+pieces-few (b ∷ bs) at = by (gap b) (pieces-few bs (at + 1)) (before-few (goesOn bs) at b (pieces (at + 1) bs))
+  where
+    by : (g : Bool) → length (pieces (at + 1) bs) ≤ length bs → length (before (goesOn bs) at b (pieces (at + 1) bs)) ≤ length (pieces (at + 1) bs) + 1 → length (cond g (pieces (at + 1) bs) (before (goesOn bs) at b (pieces (at + 1) bs))) ≤ length (b ∷ bs)
+    by true h k = omega arith
+    by false h k = omega arith
+
+told-few : (ps : List Piece) (n : Option Naming) → length (told n ps .tokens) ≤ length ps
+unfolding told
+told-few [] n = omega arith
+told-few (p ∷ ps) n = by (tokenRead n (p .bytes)) (λ m. told-few ps m)
+  where
+    by : (r : Result Said Refusal) → ((m : Option Naming) → length (told m ps .tokens) ≤ length ps) → length (telling p n r (λ m. told m ps) .tokens) ≤ length (p ∷ ps)
+    by (Err f) h = omega arith
+    by (Ok t) h = let k = h (naming-after n t) in omega arith
+
+pub text-few : (bs : List ℕ) → length bs ≤ 65536 → length (textTold bs .tokens) ≤ 65536
+text-few bs h =
+    let e = ap (λ x. length (x .tokens)) (text-short bs h) in
+    let a = told-few (pieces 0 bs) None in
+    let b = pieces-few bs 0 in
+    omega arith

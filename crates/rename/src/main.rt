@@ -1,0 +1,3 @@
+mod renaming;
+
+fn main() {}
