@@ -8,3 +8,4 @@ pub mod Picks
 pub mod Reading
 pub mod Scanning
 pub mod TokenFacts
+pub mod Words

@@ -5,10 +5,8 @@ use mathlib.Core.Bool.{Bool, true}
 use mathlib.Core.List.{List, [], _∷_}
 use native.Mathlib.Omega.{arith}
 use lib.Chars.{codes}
-use lib.Dec.{eqb}
 use lib.ListN.{getD, drop}
 use Rattle.std.proofs.shelf.Equals.{sameBytes-decides}
-use Rattle.std.proofs.shelf.Tests.{cond-false, ne-eqb}
 use Rattle.std.specs.declared.result.Result.{Result}
 use Rattle.std.specs.declared.result.Result.the-variants.{Ok, Err}
 use Rattle.std.specs.Options.{okOr}
@@ -28,7 +26,7 @@ use Rattle.names.specs.declared.pitches.Alteration.{Alteration}
 use Rattle.names.specs.declared.pitches.Alteration.the-variants.{DoubleFlat, Flat, Natural, Sharp, DoubleSharp}
 use Rattle.names.specs.declared.pitches.Pitch.{Pitch}
 use Rattle.names.specs.Names.{name, pitchNamed, pitchRead}
-use Rattle.names.specs.Letters.{letteredStep, ended, germanEndings, alterationAt}
+use Rattle.names.specs.Letters.{letteredStep, alterationAt}
 
 -- each name of the list is that of one pitch, the one that the list gives back
 named-at : (n : Naming) (s : Step) (a : Alteration) → pitchNamed n (name n (record { step = s; alteration = a })) ≡ Some (record { step = s; alteration = a })
@@ -47,15 +45,18 @@ lettered-at German s a = grind arith
 pub lettered : (n : Naming) (p : Pitch) → letteredStep n (getD (name n p) 0 0) ≡ Some (p .step)
 lettered n p = lettered-at n (p .step) (p .alteration)
 
-altered-at : (n : Naming) (s : Step) (a : Alteration) → alterationAt n (getD (name n (record { step = s; alteration = a })) 0 0) (drop 1 (name n (record { step = s; alteration = a }))) ≡ Some a
+altered-at : (n : Naming) (s : Step) (a : Alteration) → alterationAt n (getD (name n (record { step = s; alteration = a })) 0 0) (drop 1 (name n (record { step = s; alteration = a }))) ≡ a
 altered-at English s a = grind arith
-altered-at German s a = grind arith
+altered-at German C a = grind arith
+altered-at German D a = grind arith
+altered-at German E a = grind arith
+altered-at German F a = grind arith
+altered-at German G a = grind arith
+altered-at German A a = grind arith
+altered-at German B a = grind arith
 
-pub altered : (n : Naming) (p : Pitch) → alterationAt n (getD (name n p) 0 0) (drop 1 (name n p)) ≡ Some (p .alteration)
+pub altered : (n : Naming) (p : Pitch) → alterationAt n (getD (name n p) 0 0) (drop 1 (name n p)) ≡ p .alteration
 altered n p = altered-at n (p .step) (p .alteration)
-
-pub german-else : (b : ℕ) (bs : List ℕ) → (b ≡ 66 → ⊥) → alterationAt German b bs ≡ ended germanEndings bs
-german-else b bs h = cond-false (eqb b 66) _ _ (ne-eqb b 66 h)
 
 whole-at : (n : Naming) (s : Step) (a : Alteration) → name n (record { step = s; alteration = a }) ≡ getD (name n (record { step = s; alteration = a })) 0 0 ∷ drop 1 (name n (record { step = s; alteration = a }))
 whole-at English s a = grind arith
@@ -83,17 +84,14 @@ module _ (n : Naming) (b : ℕ) (bs : List ℕ) where
   first-is : (p : Pitch) → name n p ≡ b ∷ bs → letteredStep n b ≡ Some (p .step)
   first-is p e = ap (λ xs. letteredStep n (getD xs 0 0)) (sym e) ∙ lettered n p
 
-  ending-is : (p : Pitch) → name n p ≡ b ∷ bs → alterationAt n b bs ≡ Some (p .alteration)
+  ending-is : (p : Pitch) → name n p ≡ b ∷ bs → alterationAt n b bs ≡ p .alteration
   ending-is p e = ap (λ xs. alterationAt n (getD xs 0 0) (drop 1 xs)) (sym e) ∙ altered n p
 
   pub no-step : letteredStep n b ≡ None → pitchRead n (b ∷ bs) ≡ Err UnknownName
   no-step h = nameless n (b ∷ bs) (λ p e. let f = first-is p e in grind arith)
 
-  pub no-alteration : alterationAt n b bs ≡ None → pitchRead n (b ∷ bs) ≡ Err UnknownName
-  no-alteration h = nameless n (b ∷ bs) (λ p e. let f = ending-is p e in grind arith)
-
   -- only the pitch that the parts point to can have the name
-  pub other-name : (p : Pitch) → letteredStep n b ≡ Some (p .step) → alterationAt n b bs ≡ Some (p .alteration) → (name n p ≡ b ∷ bs → ⊥) → pitchRead n (b ∷ bs) ≡ Err UnknownName
+  pub other-name : (p : Pitch) → letteredStep n b ≡ Some (p .step) → alterationAt n b bs ≡ p .alteration → (name n p ≡ b ∷ bs → ⊥) → pitchRead n (b ∷ bs) ≡ Err UnknownName
   other-name p s a none =
     nameless n (b ∷ bs)
     (λ q e.

@@ -1,7 +1,7 @@
 -- What a list's first that passes a test tells.
 use mathlib.Core.Path.{_≡_, refl, sym, _∙_, ap}
 use mathlib.Core.Bool.{Bool, true, false, cond}
-use mathlib.Core.List.{List, [], _∷_, _++_}
+use mathlib.Core.List.{List, [], _∷_}
 use native.Mathlib.Omega.{arith}
 use Rattle.std.specs.declared.option.Option.{Option}
 use Rattle.std.specs.declared.option.Option.the-variants.{Some, None}
@@ -14,19 +14,3 @@ pick-passes test (y ∷ ys) x e = by (test y) refl e (pick-passes test ys x)
     by : (t : Bool) → test y ≡ t → cond t (Some y) (pick test ys) ≡ Some x → (pick test ys ≡ Some x → test x ≡ true) → test x ≡ true
     by true h e more = let same : y ≡ x = cc in ap test (sym same) ∙ h
     by false h e more = more e
-
-pub pick-later : {X : Type 0} (test : X → Bool) (xs ys : List X) → pick test xs ≡ None → pick test (xs ++ ys) ≡ pick test ys
-pick-later test [] ys e = refl
-pick-later test (x ∷ xs) ys e = by (test x) e (pick-later test xs ys)
-  where
-    by : (t : Bool) → cond t (Some x) (pick test xs) ≡ None → (pick test xs ≡ None → pick test (xs ++ ys) ≡ pick test ys) → cond t (Some x) (pick test (xs ++ ys)) ≡ pick test ys
-    by true e more = absurd (grind arith)
-    by false e more = more e
-
-pub pick-first : {X : Type 0} (test : X → Bool) (xs ys : List X) (y : X) → pick test xs ≡ Some y → pick test (xs ++ ys) ≡ Some y
-pick-first test [] ys y e = absurd (grind arith)
-pick-first test (x ∷ xs) ys y e = by (test x) e (pick-first test xs ys y)
-  where
-    by : (t : Bool) → cond t (Some x) (pick test xs) ≡ Some y → (pick test xs ≡ Some y → pick test (xs ++ ys) ≡ Some y) → cond t (Some x) (pick test (xs ++ ys)) ≡ Some y
-    by true e more = e
-    by false e more = more e

@@ -29,7 +29,7 @@ use Rattle.names.specs.declared.refusals.Refusal.{Refusal}
 use Rattle.names.specs.declared.refusals.Refusal.the-variants.{TokenTooLong, NotOfForm, BadOctaveOrLength}
 use Rattle.names.specs.declared.tokens.Kind.{Kind}
 use Rattle.names.specs.declared.tokens.Kind.the-variants.{Syllable, Note, Rest, Frame}
-use Rattle.names.specs.Keywords.{keywordWord, keywordNamed, keywords}
+use Rattle.names.specs.Keywords.{keywordWord, keywordNamed}
 use Rattle.names.specs.Names.{name, pitchRead}
 use Rattle.names.specs.Pitches.{namingWord, namingNamed, namings}
 use Rattle.names.specs.TokenLaws.{TokenLaws}
@@ -37,6 +37,7 @@ use Rattle.names.specs.Tokens.{Said, naming, syllable, note, rest, frame, each
 use Rattle.names.proofs.NameFacts.{whole, that-name, name-lists}
 use Rattle.names.proofs.Numbers.{reads-some, some-read}
 use Rattle.names.proofs.Picks.{pick-passes}
+use Rattle.names.proofs.Words.{word-named, word-is}
 use Rattle.names.proofs.Reading.{run-within, tail-long, note-tailed, frame-parts, token-naming, token-kind}
 
 pub formed : (t : Bool) (r : Refusal) → unless t r ≡ None → t ≡ true
@@ -133,10 +134,6 @@ rest-back n l t =
 -- keywords have no colon, and begin neither a naming word nor another kind of token
 word-plain : (k : Keyword) → each (λ b. not (eqb b 58)) (keywordWord k) ≡ true
 word-plain k = grind arith
-
-word-named : (k : Keyword) → keywordNamed (keywordWord k) ≡ Some k
-unfolding keywordNamed
-word-named k = grind arith
 
 word-short : (k : Keyword) → leb (length (keywordWord k)) 7 ≡ true
 word-short k = grind arith
@@ -311,14 +308,14 @@ colon-whole bs r d h =
     ap (λ xs. 58 ∷ xs) d ∙ ap (λ x. x ∷ drop (colon bs + 1) bs) e ∙ sym (drop-more bs (colon bs) 0 (omega arith))
 
 same-frame : (n : Naming) (bs : List ℕ) (t : Said) → frameRead bs ≡ Ok t → Typed n bs t
-unfolding frameRead spelled keywordNamed
+unfolding frameRead spelled
 same-frame n bs t e = by (keywordNamed (take (colon bs) bs)) (rankRead (drop (colon bs + 1) bs)) refl refl e
   where
     by : (k : Option Keyword) (r : Option ℕ) → keywordNamed (take (colon bs) bs) ≡ k → rankRead (drop (colon bs + 1) bs) ≡ r → framed k r ≡ Ok t → Typed n bs t
     by None r f g e = absurd (grind arith)
     by (Some k) None f g e = absurd (grind arith)
     by (Some k) (Some r) f g e =
-        let w = sameBytes-decides (keywordWord k) (take (colon bs) bs) .0 (pick-passes (λ x. sameBytes (keywordWord x) (take (colon bs) bs)) keywords k f) in
+        let w = word-is (take (colon bs) bs) k f in
         let d = some-read 0 255 (omega arith) (drop (colon bs + 1) bs) r g in
         let h = d .2 in
         typed-at n bs t (frame k r) e

@@ -1,9 +1,11 @@
 -- The keywords of frames. Assumes nothing.
 use Prim.Native.Nat.{ℕ}
-use mathlib.Core.List.{List, [], _∷_, _++_}
+use mathlib.Core.Path.{_≡_}
+use mathlib.Core.List.{List, [], _∷_}
 use lib.Chars.{codes}
 use lib.Dec.{eqb}
 use Rattle.std.specs.declared.option.Option.{Option}
+use Rattle.std.specs.declared.option.Option.the-variants.{Some, None}
 use Rattle.std.specs.shelf.Text.{sameBytes}
 use Rattle.names.specs.declared.keywords.Keyword.{Keyword}
 use Rattle.names.specs.declared.keywords.Keyword.the-variants.{Bar, Verse, Chord, Sung, Score, Soprano, Alto1, Alto2, Tenor, Bass1, Bass2, Organ}
@@ -37,21 +39,17 @@ keywordWord Bass1 = codes "bass1"
 keywordWord Bass2 = codes "bass2"
 keywordWord Organ = codes "organ"
 
-abbrev pub groups : List Keyword
-groups = Bar ∷ Verse ∷ Chord ∷ Sung ∷ Score ∷ []
-
-abbrev pub voices : List Keyword
-voices = Soprano ∷ Alto1 ∷ Alto2 ∷ Tenor ∷ Bass1 ∷ Bass2 ∷ Organ ∷ []
-
 abbrev pub keywords : List Keyword
-keywords = groups ++ voices
+keywords = Bar ∷ Verse ∷ Chord ∷ Sung ∷ Score ∷ Soprano ∷ Alto1 ∷ Alto2 ∷ Tenor ∷ Bass1 ∷ Bass2 ∷ Organ ∷ []
 
 -- the keyword that has a number, and the one that has a word, if any
 abbrev pub keywordNumbered : ℕ → Option Keyword
 keywordNumbered n = pick (λ k. eqb (keywordNumber k) n) keywords
 
-abbrev pub namedIn : List Keyword → List ℕ → Option Keyword
-namedIn ks bs = pick (λ k. sameBytes (keywordWord k) bs) ks
-
 unfoldable pub keywordNamed : List ℕ → Option Keyword
-keywordNamed bs = namedIn keywords bs
+keywordNamed bs = pick (λ k. sameBytes (keywordWord k) bs) keywords
+
+-- the keyword of a number, where it has the word
+abbrev pub Worded : ℕ → List ℕ → Option Keyword → Type 0
+Worded n bs None = (k : Keyword) → keywordNumber k ≡ n → keywordWord k ≡ bs → ⊥
+Worded n bs (Some k) = keywordWord k ≡ bs

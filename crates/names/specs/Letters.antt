@@ -1,12 +1,11 @@
 -- What the parts of a name point to: its first letter to a step, its ending to an alteration. Assumes nothing.
 use Prim.Native.Nat.{ℕ}
 use mathlib.Core.Bool.{cond}
-use mathlib.Core.List.{List, [], _∷_}
+use mathlib.Core.List.{List}
 use lib.Dec.{eqb}
-use lib.Chars.{codes}
+use lib.ListN.{length, getD}
 use Rattle.std.specs.declared.option.Option.{Option}
 use Rattle.std.specs.declared.option.Option.the-variants.{Some, None}
-use Rattle.std.specs.shelf.Text.{sameBytes}
 use Rattle.names.specs.declared.pitches.Naming.{Naming}
 use Rattle.names.specs.declared.pitches.Naming.the-variants.{English, German}
 use Rattle.names.specs.declared.pitches.Step.{Step}
@@ -30,30 +29,15 @@ letteredStep n b =
     (cond (eqb b 66) (Some B)
     (cond (eqb b 72) (stepH n) None)))))))
 
--- an ending, and the alteration that it points to
-abbrev pub EndedBy : Type 0
-EndedBy = List ℕ × Alteration
-
-abbrev pub ended : List EndedBy → List ℕ → Option Alteration
-ended [] bs = None
-ended (e ∷ es) bs = cond (sameBytes (e .0) bs) (Some (e .1)) (ended es bs)
-
-abbrev pub englishEndings : List EndedBy
-englishEndings = (codes "bb", DoubleFlat) ∷ (codes "b", Flat) ∷ (codes "", Natural) ∷ (codes "#", Sharp) ∷ (codes "##", DoubleSharp) ∷ []
-
--- E and A contract the endings of their flats
-abbrev pub germanEndings : List EndedBy
-germanEndings =
-    (codes "eses", DoubleFlat)
-    ∷ (codes "ses", DoubleFlat)
-    ∷ (codes "es", Flat)
-    ∷ (codes "s", Flat)
-    ∷ (codes "", Natural)
-    ∷ (codes "is", Sharp)
-    ∷ (codes "isis", DoubleSharp)
-    ∷ []
+-- the alteration that an ending points to by its first byte and its length
+abbrev pub ended : List ℕ → Alteration
+ended bs =
+    cond (eqb (length bs) 0) Natural
+    (cond (eqb (getD bs 0 0) 35) (cond (eqb (length bs) 1) Sharp DoubleSharp)
+    (cond (eqb (getD bs 0 0) 105) (cond (eqb (length bs) 2) Sharp DoubleSharp)
+    (cond (eqb (getD bs 0 0) 101) (cond (eqb (length bs) 2) Flat DoubleFlat) (cond (eqb (length bs) 1) Flat DoubleFlat))))
 
 -- the German B is flat by itself
-abbrev pub alterationAt : Naming → ℕ → List ℕ → Option Alteration
-alterationAt English b bs = ended englishEndings bs
-alterationAt German b bs = cond (eqb b 66) (Some Flat) (ended germanEndings bs)
+abbrev pub alterationAt : Naming → ℕ → List ℕ → Alteration
+alterationAt English b bs = ended bs
+alterationAt German b bs = cond (eqb b 66) Flat (ended bs)

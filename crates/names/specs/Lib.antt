@@ -14,6 +14,7 @@ pub mod Pitches
 pub mod Reader
 pub mod Refusals
 pub mod Scanned
+pub mod TextLaws
 pub mod Texts
 pub mod TokenLaws
 pub mod Tokens

@@ -1,6 +1,6 @@
 // The keywords of frames. Those from soprano on are voices.
 ghost use mathlib.Core.Path.{_≡_};
-ghost use Rattle.names.specs.Keywords.{keywordNumber, keywordNumbered, keywordWord, keywordNamed, namedIn, groups, voices};
+ghost use Rattle.names.specs.Keywords.{keywordNumber, keywordNumbered, keywordWord, keywordNamed, Worded};
 
 #[derive(Clone, Copy, PartialEq, Eq, Debug)]
 pub enum Keyword {
@@ -68,37 +68,19 @@ impl Keyword {
     pub fn named(word: &[u8]) -> Option<Keyword>
         ensures { λ r. ⌜ r ≡ keywordNamed (now (word .entry)) ⌝ }
     {
-        match group_named(word) {
-            Some(keyword) => Some(keyword),
-            None => voice_named(word),
+        for number in 0..12 {
+            if let Some(keyword) = worded(number, word) {
+                return Some(keyword);
+            }
         }
+        None
     }
 }
 
-fn group_named(word: &[u8]) -> Option<Keyword>
-    ensures { λ r. ⌜ r ≡ namedIn groups (now (word .entry)) ⌝ }
+// The keyword of the number, if the bytes are its word.
+fn worded(number: u8, word: &[u8]) -> Option<Keyword>
+    ensures { λ r. ⌜ Worded number (now (word .entry)) r ⌝ }
 {
-    match word {
-        b"bar" => Some(Keyword::Bar),
-        b"verse" => Some(Keyword::Verse),
-        b"chord" => Some(Keyword::Chord),
-        b"sung" => Some(Keyword::Sung),
-        b"score" => Some(Keyword::Score),
-        _ => None,
-    }
-}
-
-fn voice_named(word: &[u8]) -> Option<Keyword>
-    ensures { λ r. ⌜ r ≡ namedIn voices (now (word .entry)) ⌝ }
-{
-    match word {
-        b"soprano" => Some(Keyword::Soprano),
-        b"alto1" => Some(Keyword::Alto1),
-        b"alto2" => Some(Keyword::Alto2),
-        b"tenor" => Some(Keyword::Tenor),
-        b"bass1" => Some(Keyword::Bass1),
-        b"bass2" => Some(Keyword::Bass2),
-        b"organ" => Some(Keyword::Organ),
-        _ => None,
-    }
+    let keyword = Keyword::numbered(number)?;
+    if keyword.word() == word { Some(keyword) } else { None }
 }

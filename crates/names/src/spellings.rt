@@ -5,7 +5,7 @@ ghost use Prim.Native.Nat.{_+_, _≤_};
 ghost use lib.ListN.{length, getD, drop};
 ghost use Rattle.std.specs.Orderings.{Decides};
 ghost use Rattle.names.specs.Buffers.{laid, written};
-ghost use Rattle.names.specs.Letters.{letteredStep, ended, englishEndings, germanEndings, alterationAt};
+ghost use Rattle.names.specs.Letters.{letteredStep, ended, alterationAt};
 ghost use Rattle.names.specs.NameLaws.{NameLists};
 ghost use Rattle.names.specs.Names.{name, english, german, pitchRead, nameWritten};
 use crate::buffers::lay;
@@ -89,47 +89,31 @@ fn suffix(naming: Naming, pitch: Pitch) -> &'static [u8]
     }
 }
 
-fn english_ending(suffix: &[u8]) -> Option<Alteration>
-    ensures { λ r. ⌜ r ≡ ended englishEndings (now (suffix .entry)) ⌝ }
+// The alteration that an ending points to, in either naming, by its first byte and its length.
+fn ending(suffix: &[u8]) -> Alteration
+    ensures { λ r. ⌜ r ≡ ended (now (suffix .entry)) ⌝ }
 {
-    match suffix {
-        b"bb" => Some(Alteration::DoubleFlat),
-        b"b" => Some(Alteration::Flat),
-        b"" => Some(Alteration::Natural),
-        b"#" => Some(Alteration::Sharp),
-        b"##" => Some(Alteration::DoubleSharp),
-        _ => None,
+    let count = suffix.len();
+    if count == 0 {
+        return Alteration::Natural;
+    }
+    match suffix[0] {
+        b'#' if count == 1 => Alteration::Sharp,
+        b'#' => Alteration::DoubleSharp,
+        b'i' if count == 2 => Alteration::Sharp,
+        b'i' => Alteration::DoubleSharp,
+        b'e' if count == 2 => Alteration::Flat,
+        b'e' => Alteration::DoubleFlat,
+        _ if count == 1 => Alteration::Flat,
+        _ => Alteration::DoubleFlat,
     }
 }
 
-fn german_ending(suffix: &[u8]) -> Option<Alteration>
-    ensures { λ r. ⌜ r ≡ ended germanEndings (now (suffix .entry)) ⌝ }
-{
-    match suffix {
-        b"eses" => Some(Alteration::DoubleFlat),
-        b"ses" => Some(Alteration::DoubleFlat),
-        b"es" => Some(Alteration::Flat),
-        b"s" => Some(Alteration::Flat),
-        b"" => Some(Alteration::Natural),
-        b"is" => Some(Alteration::Sharp),
-        b"isis" => Some(Alteration::DoubleSharp),
-        _ => None,
-    }
-}
-
-// The alteration that a name's ending points to.
-fn altered(naming: Naming, first: u8, suffix: &[u8]) -> Option<Alteration>
+// The alteration that a name's parts point to.
+fn altered(naming: Naming, first: u8, suffix: &[u8]) -> Alteration
     ensures { λ r. ⌜ r ≡ alterationAt naming first (now (suffix .entry)) ⌝ }
 {
-    match naming {
-        Naming::English => english_ending(suffix),
-        Naming::German => {
-            if first == b'B' {
-                return Some(Alteration::Flat);
-            }
-            german_ending(suffix)
-        }
-    }
+    if naming == Naming::German && first == b'B' { Alteration::Flat } else { ending(suffix) }
 }
 
 // Whether the bytes are the name of the pitch.
@@ -150,10 +134,7 @@ pub fn read_name(naming: Naming, name: &[u8]) -> Result<Pitch, Refusal>
     let Some(step) = lettered(naming, *first) else {
         return Err(Refusal::UnknownName);
     };
-    let Some(alteration) = altered(naming, *first, rest) else {
-        return Err(Refusal::UnknownName);
-    };
-    let pitch = Pitch { step, alteration };
+    let pitch = Pitch { step, alteration: altered(naming, *first, rest) };
     if is_name(naming, pitch, *first, rest) { Ok(pitch) } else { Err(Refusal::UnknownName) }
 }
 

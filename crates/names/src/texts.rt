@@ -3,12 +3,13 @@ ghost use mathlib.Core.Path.{_≡_};
 ghost use mathlib.Core.Bool.{not};
 ghost use Prim.Native.Nat.{ℕ, _+_, _<_, _≤_};
 ghost use lib.ListN.{length, drop};
+ghost use Rattle.std.specs.Results.{Cases};
+ghost use Rattle.std.specs.declared.option.Option.the-variants.{None};
 ghost use Rattle.names.specs.Cutting.{Skipped, Ended};
-ghost use Rattle.names.specs.Lines.{LineLaws};
-ghost use Rattle.names.specs.Parted.{Parted};
 ghost use Rattle.names.specs.Reader.{CutsFirst, unread, toldNext, opened, opening};
 ghost use Rattle.names.specs.Heard.{said};
-ghost use Rattle.names.specs.Texts.{firstOf, later, naming-after, pieces};
+ghost use Rattle.names.specs.Texts.{firstOf, later, naming-after, pieces, told};
+ghost use Rattle.names.specs.TextLaws.{TextLaws};
 use crate::pitches::Naming;
 use crate::refusals::Fault;
 use crate::refusals::Refusal;
@@ -87,13 +88,19 @@ impl<'a> Reader<'a> {
     // Before the first token. A text has at most 65,536 bytes.
     pub fn over(text: &'a [u8]) -> Result<Reader<'a>, Fault>
         ensures value { λ r. ⌜ opened r ≡ opening (now (text .entry)) ⌝ }
-        ensures parted { λ _. ⌜ Parted 0 (now (text .entry)) (pieces 0 (now (text .entry))) ⌝ }
-        ensures lines { λ _. ⌜ LineLaws ⌝ }
+        ensures laws { λ r. ⌜ Cases r (λ _. TextLaws (now (text .entry))) (λ _. Unit {0}) ⌝ }
     {
         if text.len() > 65536 {
             return Err(Fault { refusal: Refusal::TextTooLong, byte: 0 });
         }
-        Ok(Reader { text, at: 0, naming: None })
+        Ok(Reader::at_start(text))
+    }
+
+    fn at_start(text: &'a [u8]) -> Reader<'a>
+        ensures value { λ r. ⌜ unread r ≡ told None (pieces 0 (now (text .entry))) ⌝ }
+        ensures laws { λ _. ⌜ TextLaws (now (text .entry)) ⌝ }
+    {
+        Reader { text, at: 0, naming: None }
     }
 
     // The next token, or none at the end. A fault stays: the reader does not go past it.

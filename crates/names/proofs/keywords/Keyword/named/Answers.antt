@@ -1,15 +1,15 @@
-use mathlib.Core.Path.{sym, _∙_}
-use Rattle.std.specs.shelf.Text.{sameBytes}
-use Rattle.names.specs.Keywords.{keywordWord, keywordNamed, groups, voices}
-use Rattle.names.proofs.Picks.{pick-later, pick-first}
+use mathlib.Core.Path.{sym, _∙_, ap}
+use native.Mathlib.Omega.{arith}
+use borrow.Author.Needs.{needs}
+use Rattle.names.specs.Keywords.{keywordNamed}
+use Rattle.names.proofs.Words.{none-more, none-left, word-named}
 use Rattle.names.proofs.keywords.Keyword.named.Needs as need
 
-pub returns-in-Some : need.returns-in-Some
-unfolding keywordNamed
-returns-in-Some c =
-    sym (pick-first (λ k. sameBytes (keywordWord k) (c .args .word .now)) groups voices (c .in-Some .keyword) (sym (c .in-Some .ensures tt)))
+pub loop-number-again : need.loop-number-again
+loop-number-again c = none-more (c .loop-number .number) (c .args .word .now) (c .in-rest .ensures tt) (c .loop-number .inv)
 
-pub returns-in-None : need.returns-in-None
-unfolding keywordNamed
-returns-in-None c =
-    c .voice-named .ensures ∙ sym (pick-later (λ k. sameBytes (keywordWord k) (c .args .word .now)) groups voices (sym (c .in-None .ensures tt)))
+pub returns-in-Some : need.returns-in-Some
+returns-in-Some c = sym (ap keywordNamed (sym (c .in-Some .ensures tt)) ∙ word-named (c .in-Some .keyword))
+
+pub returns : need.returns
+returns c = sym (none-left (c .loop-number .number) (c .args .word .now) (search needs) (c .loop-number .inv))
