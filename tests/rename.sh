@@ -91,6 +91,13 @@ for naming in german english; do
     same "tests/nun-danket.$naming" "$work/out" "nun-danket in $naming"
 done
 
+# The command of the README, and what it says that this prints.
+program=bin/rename run 0 --to german examples/nun-danket.txt
+same tests/nun-danket.german "$work/out" "bin/rename"
+sed 's/^/    /' tests/nun-danket.german >"$work/wanted"
+grep -A 4 '^    Read ' README.md >"$work/out"
+same "$work/wanted" "$work/out" "README.md shows another run"
+
 # What passes.
 becomes '' 'english'
 becomes 'german' 'english'

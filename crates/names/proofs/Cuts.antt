@@ -88,10 +88,10 @@ pieces-token text from to s h =
     let k : from + (to - from) ≡ to = omega arith in
     let split : drop from text ≡ take (to - from) (drop from text) ++ drop to text = sym (take-append-drop (to - from) (drop from text)) ∙ ap (λ xs. take (to - from) (drop from text) ++ xs) (drop-drop (to - from) from text ∙ ap (λ i. drop i text) k) in
     let all : each solid (take (to - from) (drop from text)) ≡ true =
-        each-from solid (take (to - from) (drop from text))
-        (λ j l.
-          let e = getD-take (to - from) (drop from text) j 0 (omega arith) ∙ getD-drop from text j 0 in
-          ap solid e ∙ ap not (s .all (from + j) (omega arith) (omega arith) .1)) in
+    each-from solid (take (to - from) (drop from text))
+    (λ j l.
+    let e = getD-take (to - from) (drop from text) j 0 (omega arith) ∙ getD-drop from text j 0 in
+    ap solid e ∙ ap not (s .all (from + j) (omega arith) (omega arith) .1)) in
     let m : from + length (take (to - from) (drop from text)) ≡ to = omega arith in
     ap (pieces from) split
     ∙ piece-token from (take (to - from) (drop from text)) (drop to text) (omega arith) all (behind text from to s)

@@ -31,11 +31,11 @@ laid-more out xs ys at h =
     let split : laid out at xs ≡ (take at out ++ xs) ++ drop (at + length xs) out = sym (append-assoc (take at out) xs (drop (at + length xs) out)) in
     let taken : take (at + length xs) (laid out at xs) ≡ take at out ++ xs = ap (take (at + length xs)) split ∙ take-at (take at out ++ xs) (drop (at + length xs) out) (at + length xs) front in
     let dropped : drop (at + length xs + length ys) (laid out at xs) ≡ drop (at + length (xs ++ ys)) out =
-        sym (drop-drop (length ys) (at + length xs) (laid out at xs))
-        ∙ ap (λ zs. drop (length ys) (drop (at + length xs) zs)) split
-        ∙ ap (drop (length ys)) (drop-at (take at out ++ xs) (drop (at + length xs) out) (at + length xs) front)
-        ∙ drop-drop (length ys) (at + length xs) out
-        ∙ ap (λ k. drop k out) total in
+    sym (drop-drop (length ys) (at + length xs) (laid out at xs))
+    ∙ ap (λ zs. drop (length ys) (drop (at + length xs) zs)) split
+    ∙ ap (drop (length ys)) (drop-at (take at out ++ xs) (drop (at + length xs) out) (at + length xs) front)
+    ∙ drop-drop (length ys) (at + length xs) out
+    ∙ ap (λ k. drop k out) total in
     ap (λ zs. zs ++ (ys ++ drop (at + length xs + length ys) (laid out at xs))) taken
     ∙ ap (λ zs. (take at out ++ xs) ++ (ys ++ zs)) dropped
     ∙ append-assoc (take at out) xs (ys ++ drop (at + length (xs ++ ys)) out)

@@ -160,6 +160,7 @@ told-typable (p ∷ ps) n = by (tokenRead n (p .bytes)) refl (λ m. told-typable
     as-word : (t : Said) (b : Bool) → isWord t ≡ b → malformed t ≡ None → (ws : List Said) → All Typable ws → All Typable (cond b (t ∷ ws) ws)
     as-word t true w f ws h = (record { word = w; formed = f }, h)
     as-word t false w f ws h = h
+
     by : (r : Result Said Refusal) → tokenRead n (p .bytes) ≡ r → ((m : Option Naming) → All Typable (wordsOf (told m ps .tokens))) → All Typable (wordsOf (telling p n r (λ m. told m ps) .tokens))
     by (Err f) e h = tt
     by (Ok t) e h = as-word t (isWord t) refl (typable-token n (p .bytes) t e) (wordsOf (told (naming-after n t) ps .tokens)) (h (naming-after n t))
@@ -186,9 +187,9 @@ text-short bs h = cond-false (ltb 65536 (length bs)) _ _ (le-ltb 65536 (length b
 
 pub line-laws : LineLaws
 line-laws =
-    record
-    { back = λ n ts h l. let e = text-short (line n ts) l in let t = line-told n ts h in (ap (λ x. wordsOf (x .tokens)) e ∙ t .0, ap (λ x. x .fault) e ∙ t .1)
-    ; typable = text-typable
+    record {
+      back = λ n ts h l. let e = text-short (line n ts) l in let t = line-told n ts h in (ap (λ x. wordsOf (x .tokens)) e ∙ t .0, ap (λ x. x .fault) e ∙ t .1);
+      typable = text-typable;
     }
 
 -- a text has no more tokens than bytes

@@ -93,8 +93,8 @@ module _ (n : Naming) (b : ℕ) (bs : List ℕ) where
   -- only the pitch that the parts point to can have the name
   pub other-name : (p : Pitch) → letteredStep n b ≡ Some (p .step) → alterationAt n b bs ≡ p .alteration → (name n p ≡ b ∷ bs → ⊥) → pitchRead n (b ∷ bs) ≡ Err UnknownName
   other-name p s a none =
-    nameless n (b ∷ bs)
-    (λ q e.
+      nameless n (b ∷ bs)
+      (λ q e.
       let f = first-is q e in
       let g = ending-is q e in
       let st : q .step ≡ p .step = cc in
@@ -103,9 +103,10 @@ module _ (n : Naming) (b : ℕ) (bs : List ℕ) where
 
 -- a name is its letter and its ending
 pub parts-decide : (n : Naming) (p : Pitch) (b : ℕ) (bs suffix : List ℕ) (r : Bool) → b ≡ getD (name n p) 0 0 → suffix ≡ drop 1 (name n p) → Decides r (bs ≡ suffix) → Decides r (name n p ≡ b ∷ bs)
-parts-decide n p b bs suffix r l s d =
-    ((λ t. whole n p ∙ ap (λ x. x ∷ drop 1 (name n p)) (sym l) ∙ ap (λ xs. b ∷ xs) (sym s ∙ sym (d .0 t)))
-    , (λ e. d .1 (sym (s ∙ ap (drop 1) e))))
+parts-decide n p b bs suffix r l s d = (
+  (λ t. whole n p ∙ ap (λ x. x ∷ drop 1 (name n p)) (sym l) ∙ ap (λ xs. b ∷ xs) (sym s ∙ sym (d .0 t))),
+  (λ e. d .1 (sym (s ∙ ap (drop 1) e))),
+)
 
 pub parts-whole : (n : Naming) (p : Pitch) (b : ℕ) (suffix : List ℕ) → b ≡ getD (name n p) 0 0 → suffix ≡ drop 1 (name n p) → b ∷ suffix ≡ name n p
 parts-whole n p b suffix l s = ap (λ x. x ∷ suffix) l ∙ ap (λ xs. getD (name n p) 0 0 ∷ xs) s ∙ sym (whole n p)
@@ -132,10 +133,10 @@ no-h German e = grind arith
 
 pub name-lists : NameLists
 name-lists =
-    record
-    { count = refl
-    ; once = λ n p q e. let f = sym (named n p) ∙ ap (pitchNamed n) e ∙ named n q in some-same p q f
-    ; back = λ n p. that-name n p (name n p) refl
-    ; same = λ n bs p e. names-it n bs p (read-named n bs p e)
-    ; h = no-h
+    record {
+      count = refl;
+      once = λ n p q e. let f = sym (named n p) ∙ ap (pitchNamed n) e ∙ named n q in some-same p q f;
+      back = λ n p. that-name n p (name n p) refl;
+      same = λ n bs p e. names-it n bs p (read-named n bs p e);
+      h = no-h;
     }

@@ -62,14 +62,14 @@ module _ (least most : ℕ) (small : most < 256) (bs : List ℕ) where
   pub reads-some : (n : ℕ) → decimal n ≡ bs → least ≤ n → n ≤ most → numberRead least most bs ≡ Some n
   unfolding numberRead
   reads-some n e l h =
-    up-finds (λ m. sameBytes (decimal m) bs) least (most + 1 - least) n l (omega arith) (sameBytes-decides (decimal n) bs .1 e)
-    (λ m s t. same-from-decimal m n (omega arith) (omega arith) (sameBytes-decides (decimal m) bs .0 t ∙ sym e))
+      up-finds (λ m. sameBytes (decimal m) bs) least (most + 1 - least) n l (omega arith) (sameBytes-decides (decimal n) bs .1 e)
+      (λ m s t. same-from-decimal m n (omega arith) (omega arith) (sameBytes-decides (decimal m) bs .0 t ∙ sym e))
 
   pub some-read : (n : ℕ) → numberRead least most bs ≡ Some n → (decimal n ≡ bs) × (least ≤ n) × (n ≤ most)
   unfolding numberRead
   some-read n e =
-    let w = up-within (λ m. sameBytes (decimal m) bs) least (most + 1 - least) n e in
-    (sameBytes-decides (decimal n) bs .0 (pick-passes (λ m. sameBytes (decimal m) bs) (upFrom least (most + 1 - least)) n e), w .0, omega arith)
+      let w = up-within (λ m. sameBytes (decimal m) bs) least (most + 1 - least) n e in
+      (sameBytes-decides (decimal n) bs .0 (pick-passes (λ m. sameBytes (decimal m) bs) (upFrom least (most + 1 - least)) n e), w .0, omega arith)
 
   pub reads-none : ((n : ℕ) → decimal n ≡ bs → least ≤ n → n ≤ most → ⊥) → numberRead least most bs ≡ None
   reads-none none = by (numberRead least most bs) refl
@@ -83,8 +83,8 @@ module _ (least most : ℕ) (small : most < 256) (bs : List ℕ) where
 
   pub value-none : (allDigits bs ≡ true → (least ≤ valueOn 0 bs) → (valueOn 0 bs ≤ most) → ⊥) → numberRead least most bs ≡ None
   value-none none =
-    reads-none
-    (λ n e l h.
+      reads-none
+      (λ n e l h.
       let d : allDigits bs ≡ true = rw e at (digits-decimal own n (omega arith)) in
       let v : valueOn 0 bs ≡ n = rw e at (value-decimal own n (omega arith)) in
       none d (omega arith) (omega arith))

@@ -28,7 +28,7 @@ token-first at b (c ∷ bs) (p ∷ ps) g o (next [] token rest e all some whole 
     let n : at + length {A = ℕ} [] ≡ at = omega arith in
     let m : at + 1 + length {A = ℕ} [] + length token ≡ at + length {A = ℕ} [] + length (b ∷ token) = omega arith in
     let h : Parted at (b ∷ c ∷ bs) (record { byte = at + length {A = ℕ} []; bytes = b ∷ token } ∷ ps) =
-        next [] (b ∷ token) rest (ap (λ xs. b ∷ xs) e) refl (omega arith) (and-from (solid b) (each solid token) (ap not g) whole) ends (moved m more) in
+    next [] (b ∷ token) rest (ap (λ xs. b ∷ xs) e) refl (omega arith) (and-from (solid b) (each solid token) (ap not g) whole) ends (moved m more) in
     rw n at h
 token-first at b (c ∷ bs) (p ∷ ps) g o (next (x ∷ gaps) token rest e all some whole ends more) =
     let q = and-parts (gap x) (each gap gaps) all .0 in
@@ -41,7 +41,7 @@ token-alone at b bs ps g o h =
     let n : at + length {A = ℕ} [] ≡ at = omega arith in
     let m : at + 1 ≡ at + length {A = ℕ} [] + length (b ∷ []) = omega arith in
     let h : Parted at (b ∷ bs) (record { byte = at + length {A = ℕ} []; bytes = b ∷ [] } ∷ ps) =
-        next [] (b ∷ []) bs refl refl (omega arith) (and-from (solid b) true (ap not g) refl) o (moved m h) in
+    next [] (b ∷ []) bs refl refl (omega arith) (and-from (solid b) true (ap not g) refl) o (moved m h) in
     rw n at h
 
 pub parted : (bs : List ℕ) (at : ℕ) → Parted at bs (pieces at bs)

@@ -100,30 +100,30 @@ module _ (s : List ℕ) (t : syllabled s ≡ true) where
 
   syllable-short : length s ≤ 30
   syllable-short =
-    let p = and-parts (leb 1 (length s)) (leb (length s) 30 && each plain s) t in
-    leb-true (length s) 30 (and-parts (leb (length s) 30) (each plain s) (p .1) .0)
+      let p = and-parts (leb 1 (length s)) (leb (length s) 30 && each plain s) t in
+      leb-true (length s) 30 (and-parts (leb (length s) 30) (each plain s) (p .1) .0)
 
   quotes-inside : inside (quotes s) ≡ s
   quotes-inside =
-    let n = quotes-length in
-    let k : length (quotes s) - 2 ≡ length s = omega arith in
-    ap (λ x. take x (s ++ 34 ∷ [])) k ∙ take-at s (34 ∷ []) (length s) refl
+      let n = quotes-length in
+      let k : length (quotes s) - 2 ≡ length s = omega arith in
+      ap (λ x. take x (s ++ 34 ∷ [])) k ∙ take-at s (34 ∷ []) (length s) refl
 
   quotes-quoted : quoted (quotes s) ≡ true
   quotes-quoted =
-    let n = quotes-length in
-    let k : length (quotes s) - 1 ≡ suc (length s) = omega arith in
-    let g : getD (quotes s) (length (quotes s) - 1) 0 ≡ 34 = ap (λ x. getD (quotes s) x 0) k ∙ getD-at s 34 [] 0 (length s) refl in
-    and-from (leb 2 (length (quotes s))) (eqb 34 34 && eqb (getD (quotes s) (length (quotes s) - 1) 0) 34) (le-leb 2 (length (quotes s)) (omega arith)) (eq-eqb (getD (quotes s) (length (quotes s) - 1) 0) 34 g)
+      let n = quotes-length in
+      let k : length (quotes s) - 1 ≡ suc (length s) = omega arith in
+      let g : getD (quotes s) (length (quotes s) - 1) 0 ≡ 34 = ap (λ x. getD (quotes s) x 0) k ∙ getD-at s 34 [] 0 (length s) refl in
+      and-from (leb 2 (length (quotes s))) (eqb 34 34 && eqb (getD (quotes s) (length (quotes s) - 1) 0) 34) (le-leb 2 (length (quotes s)) (omega arith)) (eq-eqb (getD (quotes s) (length (quotes s) - 1) 0) 34 g)
 
   syllable-back : (n : Option Naming) → tokenRead n (quotes s) ≡ Ok (syllable s)
   unfolding syllableRead
   syllable-back n =
-    let l = quotes-length in
-    let h = syllable-short in
-    token-kind n (quotes s) Syllable (omega arith) refl refl
-    ∙ cond-true (quoted (quotes s) && syllabled (inside (quotes s))) _ _ (and-from (quoted (quotes s)) (syllabled (inside (quotes s))) quotes-quoted (ap syllabled quotes-inside ∙ t))
-    ∙ ap (λ x. Ok (syllable x)) quotes-inside
+      let l = quotes-length in
+      let h = syllable-short in
+      token-kind n (quotes s) Syllable (omega arith) refl refl
+      ∙ cond-true (quoted (quotes s) && syllabled (inside (quotes s))) _ _ (and-from (quoted (quotes s)) (syllabled (inside (quotes s))) quotes-quoted (ap syllabled quotes-inside ∙ t))
+      ∙ ap (λ x. Ok (syllable x)) quotes-inside
 
 rest-back : (n : Option Naming) (l : ℕ) → lasting l ≡ true → tokenRead n (marked (codes "r") 47 l) ≡ Ok (rest l)
 unfolding restRead
@@ -179,23 +179,23 @@ module _ (n : Naming) (p : Pitch) (o l : ℕ) (t : sung o l ≡ true) where
 
   note-kind : (namingNamed note-bytes ≡ None) × (begun note-bytes ≡ Note)
   note-kind =
-    let w = whole n p in
-    let u = name-at n (p .step) (p .alteration) .1 in
-    let e : note-bytes ≡ getD (name n p) 0 0 ∷ (drop 1 (name n p) ++ note-end) = note-split ∙ ap (λ xs. xs ++ note-end) w in
-    (ap namingNamed e ∙ capital-named (getD (name n p) 0 0) (drop 1 (name n p) ++ note-end) u, ap begun e ∙ capital-note (getD (name n p) 0 0) (drop 1 (name n p) ++ note-end) u)
+      let w = whole n p in
+      let u = name-at n (p .step) (p .alteration) .1 in
+      let e : note-bytes ≡ getD (name n p) 0 0 ∷ (drop 1 (name n p) ++ note-end) = note-split ∙ ap (λ xs. xs ++ note-end) w in
+      (ap namingNamed e ∙ capital-named (getD (name n p) 0 0) (drop 1 (name n p) ++ note-end) u, ap begun e ∙ capital-note (getD (name n p) 0 0) (drop 1 (name n p) ++ note-end) u)
 
   note-back : tokenRead (Some n) note-bytes ≡ Ok (note p o l)
   note-back =
-    let last = and-parts (leb o 9) (lasting l) t .1 in
-    let s = length-short l last in
-    let a = leb-true (length (name n p)) 5 (name-at n (p .step) (p .alteration) .2) in
-    let m = ap length note-split ∙ length-append (name n p) note-end in
-    let d : 48 + o - 48 ≡ o = omega arith in
-    let tail : tailed (noteTail note-bytes) ≡ true = ap tailed note-behind ∙ and-from (asciiDigit (48 + o)) (eqb 47 47) octave-digit refl in
-    token-kind (Some n) note-bytes Note (omega arith) (note-kind .0) (note-kind .1)
-    ∙ note-tailed n note-bytes p (Some l) (ap (pitchRead n) note-front ∙ that-name n p (name n p) refl) tail (ap (λ xs. lengthRead (drop 2 xs)) note-behind ∙ length-back l last)
-    ∙ ap (λ xs. Ok (note p (getD xs 0 0 - 48) l)) note-behind
-    ∙ ap (λ x. Ok (note p x l)) d
+      let last = and-parts (leb o 9) (lasting l) t .1 in
+      let s = length-short l last in
+      let a = leb-true (length (name n p)) 5 (name-at n (p .step) (p .alteration) .2) in
+      let m = ap length note-split ∙ length-append (name n p) note-end in
+      let d : 48 + o - 48 ≡ o = omega arith in
+      let tail : tailed (noteTail note-bytes) ≡ true = ap tailed note-behind ∙ and-from (asciiDigit (48 + o)) (eqb 47 47) octave-digit refl in
+      token-kind (Some n) note-bytes Note (omega arith) (note-kind .0) (note-kind .1)
+      ∙ note-tailed n note-bytes p (Some l) (ap (pitchRead n) note-front ∙ that-name n p (name n p) refl) tail (ap (λ xs. lengthRead (drop 2 xs)) note-behind ∙ length-back l last)
+      ∙ ap (λ xs. Ok (note p (getD xs 0 0 - 48) l)) note-behind
+      ∙ ap (λ x. Ok (note p x l)) d
 
 pub back : (n : Naming) (t : Said) → malformed t ≡ None → tokenRead (Some n) (spelled n t) ≡ Ok t
 unfolding spelled
@@ -213,16 +213,16 @@ module _ (bs : List ℕ) where
       by : (xs : List ℕ) → bs ≡ xs → quoted xs ≡ true → quotes (inside xs) ≡ xs
       by [] e q = absurd (grind arith)
       by (b ∷ xs) e q =
-        let p = and-parts (leb 2 (length (b ∷ xs))) (eqb b 34 && eqb (getD (b ∷ xs) (length (b ∷ xs) - 1) 0) 34) q in
-        let r = and-parts (eqb b 34) (eqb (getD (b ∷ xs) (length (b ∷ xs) - 1) 0) 34) (p .1) in
-        let l = leb-true 2 (length (b ∷ xs)) (p .0) in
-        let first = eqb-true b 34 (r .0) in
-        let last = eqb-true (getD (b ∷ xs) (length (b ∷ xs) - 1) 0) 34 (r .1) in
-        let k : length (b ∷ xs) - 1 ≡ suc (length (b ∷ xs) - 2) = omega arith in
-        let end : getD xs (length (b ∷ xs) - 2) 0 ≡ 34 = ap (λ i. getD (b ∷ xs) i 0) (sym k) ∙ last in
-        let m = take-more xs (length (b ∷ xs) - 2) 0 (omega arith) in
-        let all = take-all (length (b ∷ xs) - 2 + 1) xs (omega arith) in
-        ap (λ y. y ∷ (inside (b ∷ xs) ++ 34 ∷ [])) (sym first) ∙ ap (λ y. b ∷ (inside (b ∷ xs) ++ y ∷ [])) (sym end) ∙ ap (λ ys. b ∷ ys) (sym m ∙ all)
+          let p = and-parts (leb 2 (length (b ∷ xs))) (eqb b 34 && eqb (getD (b ∷ xs) (length (b ∷ xs) - 1) 0) 34) q in
+          let r = and-parts (eqb b 34) (eqb (getD (b ∷ xs) (length (b ∷ xs) - 1) 0) 34) (p .1) in
+          let l = leb-true 2 (length (b ∷ xs)) (p .0) in
+          let first = eqb-true b 34 (r .0) in
+          let last = eqb-true (getD (b ∷ xs) (length (b ∷ xs) - 1) 0) 34 (r .1) in
+          let k : length (b ∷ xs) - 1 ≡ suc (length (b ∷ xs) - 2) = omega arith in
+          let end : getD xs (length (b ∷ xs) - 2) 0 ≡ 34 = ap (λ i. getD (b ∷ xs) i 0) (sym k) ∙ last in
+          let m = take-more xs (length (b ∷ xs) - 2) 0 (omega arith) in
+          let all = take-all (length (b ∷ xs) - 2 + 1) xs (omega arith) in
+          ap (λ y. y ∷ (inside (b ∷ xs) ++ 34 ∷ [])) (sym first) ∙ ap (λ y. b ∷ (inside (b ∷ xs) ++ y ∷ [])) (sym end) ∙ ap (λ ys. b ∷ ys) (sym m ∙ all)
 
 abbrev pub Typed : Naming → List ℕ → Said → Type 0
 Typed n bs t = (malformed t ≡ None) × (spelled n t ≡ bs)
@@ -267,15 +267,17 @@ same-note n bs t e = by (pitchRead n (noteName bs)) refl e
         let r = length-is (drop 2 (noteTail bs)) l g in
         let o = getD (noteTail bs) 0 0 - 48 in
         let back : spelled n (note p o l) ≡ bs =
-            append-assoc (name n p) ((48 + o) ∷ []) (47 ∷ decimal l)
-            ∙ ap (λ xs. name n p ++ ((48 + o) ∷ 47 ∷ xs)) (r .0)
-            ∙ ap (λ xs. name n p ++ xs) (tail-whole (noteTail bs) d)
-            ∙ ap (λ xs. xs ++ noteTail bs) f
-            ∙ take-append-drop (run digitless bs) bs in
+        append-assoc (name n p) ((48 + o) ∷ []) (47 ∷ decimal l)
+        ∙ ap (λ xs. name n p ++ ((48 + o) ∷ 47 ∷ xs)) (r .0)
+        ∙ ap (λ xs. name n p ++ xs) (tail-whole (noteTail bs) d)
+        ∙ ap (λ xs. xs ++ noteTail bs) f
+        ∙ take-append-drop (run digitless bs) bs in
         typed-at n bs t (note p o l) e (ap (λ x. unless x BadOctaveOrLength) (and-from (leb o 9) (lasting l) (octave-small (noteTail bs) d) (r .1)), back)
+
     at-tail : (p : Pitch) → name n p ≡ noteName bs → (c : Bool) → tailed (noteTail bs) ≡ c → cond c (ofLength (lengthRead (drop 2 (noteTail bs))) (note p (getD (noteTail bs) 0 0 - 48))) (Err BadOctaveOrLength) ≡ Ok t → Typed n bs t
     at-tail p f true d e = at-length p f d (lengthRead (drop 2 (noteTail bs))) refl e
     at-tail p f false d e = absurd (grind arith)
+
     by : (r : Result Pitch Refusal) → pitchRead n (noteName bs) ≡ r → ofPitch r (noteTail bs) ≡ Ok t → Typed n bs t
     by (Err f) g e = absurd (grind arith)
     by (Ok p) g e = at-tail p (name-lists .same n (noteName bs) p g) (tailed (noteTail bs)) refl e
@@ -339,10 +341,12 @@ same n bs t e = by (ltb 64 (length bs)) e
     as-kind Note b e = same-note n bs t e
     as-kind Rest b e = same-rest n bs t (begun-rest bs b) e
     as-kind Frame b e = same-frame n bs t e
+
     as-word : (m : Option Naming) → namingNamed bs ≡ m → worded m (readAs (begun bs) (Some n) bs) ≡ Ok t → Typed n bs t
     as-word None f e = as-kind (begun bs) refl e
     as-word (Some m) f e =
         typed-at n bs t (naming m) e (refl, sameBytes-decides (namingWord m) bs .0 (pick-passes (λ x. sameBytes (namingWord x) bs) namings m f))
+
     by : (c : Bool) → cond c (Err TokenTooLong) (worded (namingNamed bs) (readAs (begun bs) (Some n) bs)) ≡ Ok t → Typed n bs t
     by true e = absurd (grind arith)
     by false e = as-word (namingNamed bs) refl e
@@ -356,20 +360,22 @@ unset n bs t e = by (ltb 64 (length bs)) e
     as-kind Note e = absurd (grind arith)
     as-kind Rest e = e
     as-kind Frame e = e
+
     as-word : (m : Option Naming) → worded m (readAs (begun bs) None bs) ≡ Ok t → worded m (readAs (begun bs) (Some n) bs) ≡ Ok t
     as-word None e = as-kind (begun bs) e
     as-word (Some m) e = e
+
     by : (c : Bool) → cond c (Err TokenTooLong) (worded (namingNamed bs) (readAs (begun bs) None bs)) ≡ Ok t → cond c (Err TokenTooLong) (worded (namingNamed bs) (readAs (begun bs) (Some n) bs)) ≡ Ok t
     by true e = absurd (grind arith)
     by false e = as-word (namingNamed bs) e
 
 pub token-laws : TokenLaws
 token-laws =
-    record
-    { back = back
-    ; same = same
-    ; once = λ n t u f g e. let r = sym (back n t f) ∙ ap (tokenRead (Some n)) e ∙ back n u g in ok-same t u r
-    ; unset = unset
+    record {
+      back = back;
+      same = same;
+      once = λ n t u f g e. let r = sym (back n t f) ∙ ap (tokenRead (Some n)) e ∙ back n u g in ok-same t u r;
+      unset = unset;
     }
   where
     ok-same : (t u : Said) → _≡_ {A = Result Said Refusal} (Ok t) (Ok u) → t ≡ u

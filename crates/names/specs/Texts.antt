@@ -63,9 +63,9 @@ naming-after n (frame k rank) = n
 abbrev pub telling : Piece → Option Naming → Result Said Refusal → (Option Naming → Telling) → Telling
 telling p n (Err r) later = stopped r (p .byte)
 telling p n (Ok t) later =
-    record
-    { tokens = record { byte = p .byte; typed = p .bytes; says = t } ∷ later (naming-after n t) .tokens
-    ; fault = later (naming-after n t) .fault
+    record {
+      tokens = record { byte = p .byte; typed = p .bytes; says = t } ∷ later (naming-after n t) .tokens;
+      fault = later (naming-after n t) .fault;
     }
 
 unfoldable pub told : Option Naming → List Piece → Telling

@@ -30,9 +30,9 @@ use Rattle.names.specs.Pitches.{namingWord, namingNamed}
 pub data Said : Type 0 where
   naming : Naming → Said
   syllable : List ℕ → Said
-  note : Pitch → ℕ → ℕ → Said -- pitch, octave, length
-  rest : ℕ → Said -- length
-  frame : Keyword → ℕ → Said -- keyword, rank
+  note : Pitch → ℕ → ℕ → Said  -- pitch, octave, length
+  rest : ℕ → Said  -- length
+  frame : Keyword → ℕ → Said  -- keyword, rank
 
 -- space and line end part tokens from each other
 abbrev pub gap : ℕ → Bool

@@ -50,7 +50,11 @@ pub fn decimal_length(number: u32) -> usize
     ensures value { λ r. ⌜ r ≡ length (decimal number) ⌝ }
     ensures few { λ r. ⌜ r ≤ 10 ⌝ }
 {
-    if number < 10 { 1 } else { decimal_length(number / 10) + 1 }
+    if number < 10 {
+        1
+    } else {
+        decimal_length(number / 10) + 1
+    }
 }
 
 pub fn lay_decimal(out: &mut [u8], at: usize, number: u32) -> usize

@@ -11,7 +11,12 @@ use crate::spellings::read_name;
 use crate::spellings::write_name;
 
 #[unsafe(no_mangle)]
-pub extern "C" fn zoepurd_read_name(naming: u8, name: &[u8], step: &mut u8, alteration: &mut i8) -> u8
+pub extern "C" fn zoepurd_read_name(
+    naming: u8,
+    name: &[u8],
+    step: &mut u8,
+    alteration: &mut i8,
+) -> u8
     ensures answer { λ r. ⌜ r ≡ code (readIn (namingNumbered naming) (now (name .entry))) ⌝ }
     ensures step { λ _. ⌜ now (step .exit) ≡ stepOr (readIn (namingNumbered naming) (now (name .entry))) (now (step .entry)) ⌝ }
     ensures alteration { λ _. ⌜ now (alteration .exit) ≡ alterationOr (readIn (namingNumbered naming) (now (name .entry))) (now (alteration .entry)) ⌝ }
@@ -30,7 +35,13 @@ pub extern "C" fn zoepurd_read_name(naming: u8, name: &[u8], step: &mut u8, alte
 }
 
 #[unsafe(no_mangle)]
-pub extern "C" fn zoepurd_write_name(naming: u8, step: u8, alteration: i8, out: &mut [u8], count: &mut usize) -> u8
+pub extern "C" fn zoepurd_write_name(
+    naming: u8,
+    step: u8,
+    alteration: i8,
+    out: &mut [u8],
+    count: &mut usize,
+) -> u8
     ensures answer { λ r. ⌜ r ≡ code (writtenIn (namingNumbered naming) (pitchOf (stepNumbered step) (alterationNumbered alteration)) (now (out .entry))) ⌝ }
     ensures count { λ _. ⌜ now (count .exit) ≡ countOr (writtenIn (namingNumbered naming) (pitchOf (stepNumbered step) (alterationNumbered alteration)) (now (out .entry))) (now (count .entry)) ⌝ }
     ensures after { λ _. ⌜ now (out .exit) ≡ bufferIn (namingNumbered naming) (pitchOf (stepNumbered step) (alterationNumbered alteration)) (now (out .entry)) ⌝ }

@@ -82,5 +82,9 @@ fn worded(number: u8, word: &[u8]) -> Option<Keyword>
     ensures { λ r. ⌜ Worded number (now (word .entry)) r ⌝ }
 {
     let keyword = Keyword::numbered(number)?;
-    if keyword.word() == word { Some(keyword) } else { None }
+    if keyword.word() == word {
+        Some(keyword)
+    } else {
+        None
+    }
 }

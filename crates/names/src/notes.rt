@@ -52,7 +52,11 @@ pub fn scan(bytes: &[u8]) -> NoteReader
     requires { ⌜ length (now bytes) ≤ 64 ⌝ }
     ensures { λ r. ⌜ r ≡ scanned start (now (bytes .entry)) ⌝ }
 {
-    let mut reader = NoteReader { part: Part::Name, name: 0, octave: 0 };
+    let mut reader = NoteReader {
+        part: Part::Name,
+        name: 0,
+        octave: 0,
+    };
     for byte in bytes {
         reader.next(*byte);
     }

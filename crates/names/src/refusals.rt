@@ -100,7 +100,8 @@ impl Refusal {
             Refusal::NoNaming => "a note stands before the first word german or english",
             Refusal::OutOfRange => "there is no such naming, step or alteration",
             Refusal::UnknownName => "the note's name is not in the list of its naming",
-            Refusal::BadOctaveOrLength => "the octave is not one digit or the length is not /1 to /64",
+            Refusal::BadOctaveOrLength =>
+                "the octave is not one digit or the length is not /1 to /64",
             Refusal::RankAboveTops => "the word asks for more passages than are open",
             Refusal::BookFull => "the book holds 4096 words already",
             Refusal::RegisterFull => "the register has too few free places for the word",

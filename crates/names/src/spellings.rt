@@ -113,7 +113,11 @@ fn ending(suffix: &[u8]) -> Alteration
 fn altered(naming: Naming, first: u8, suffix: &[u8]) -> Alteration
     ensures { λ r. ⌜ r ≡ alterationAt naming first (now (suffix .entry)) ⌝ }
 {
-    if naming == Naming::German && first == b'B' { Alteration::Flat } else { ending(suffix) }
+    if naming == Naming::German && first == b'B' {
+        Alteration::Flat
+    } else {
+        ending(suffix)
+    }
 }
 
 // Whether the bytes are the name of the pitch.
@@ -134,8 +138,15 @@ pub fn read_name(naming: Naming, name: &[u8]) -> Result<Pitch, Refusal>
     let Some(step) = lettered(naming, *first) else {
         return Err(Refusal::UnknownName);
     };
-    let pitch = Pitch { step, alteration: altered(naming, *first, rest) };
-    if is_name(naming, pitch, *first, rest) { Ok(pitch) } else { Err(Refusal::UnknownName) }
+    let pitch = Pitch {
+        step,
+        alteration: altered(naming, *first, rest),
+    };
+    if is_name(naming, pitch, *first, rest) {
+        Ok(pitch)
+    } else {
+        Err(Refusal::UnknownName)
+    }
 }
 
 pub fn name_length(naming: Naming, pitch: Pitch) -> usize

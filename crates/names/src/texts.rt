@@ -72,7 +72,11 @@ pub fn next_cut<'a>(text: &'a [u8], at: usize) -> Option<Cut<'a>>
     if end == byte {
         return None;
     }
-    Some(Cut { byte, end, bytes: &text[byte..end] })
+    Some(Cut {
+        byte,
+        end,
+        bytes: &text[byte..end],
+    })
 }
 
 fn naming_after(naming: Option<Naming>, token: &Token) -> Option<Naming>
@@ -91,7 +95,10 @@ impl<'a> Reader<'a> {
         ensures laws { λ r. ⌜ Cases r (λ _. TextLaws (now (text .entry))) (λ _. Unit {0}) ⌝ }
     {
         if text.len() > 65536 {
-            return Err(Fault { refusal: Refusal::TextTooLong, byte: 0 });
+            return Err(Fault {
+                refusal: Refusal::TextTooLong,
+                byte: 0,
+            });
         }
         Ok(Reader::at_start(text))
     }
@@ -100,7 +107,11 @@ impl<'a> Reader<'a> {
         ensures value { λ r. ⌜ unread r ≡ told None (pieces 0 (now (text .entry))) ⌝ }
         ensures laws { λ _. ⌜ TextLaws (now (text .entry)) ⌝ }
     {
-        Reader { text, at: 0, naming: None }
+        Reader {
+            text,
+            at: 0,
+            naming: None,
+        }
     }
 
     // The next token, or none at the end. A fault stays: the reader does not go past it.
@@ -115,9 +126,16 @@ impl<'a> Reader<'a> {
             Ok(token) => {
                 self.naming = naming_after(self.naming, &token);
                 self.at = cut.end;
-                Ok(Some(Placed { byte: cut.byte, bytes: cut.bytes, token }))
+                Ok(Some(Placed {
+                    byte: cut.byte,
+                    bytes: cut.bytes,
+                    token,
+                }))
             }
-            Err(refusal) => Err(Fault { refusal, byte: cut.byte }),
+            Err(refusal) => Err(Fault {
+                refusal,
+                byte: cut.byte,
+            }),
         }
     }
 }

@@ -87,7 +87,11 @@ fn read_syllable<'a>(bytes: &'a [u8]) -> Result<Token<'a>, Refusal>
         return Err(Refusal::NotOfForm);
     }
     let inside = &bytes[1..bytes.len() - 1];
-    if is_syllable(inside) { Ok(Token::Syllable(inside)) } else { Err(Refusal::NotOfForm) }
+    if is_syllable(inside) {
+        Ok(Token::Syllable(inside))
+    } else {
+        Err(Refusal::NotOfForm)
+    }
 }
 
 fn read_note<'a>(naming: Option<Naming>, bytes: &'a [u8]) -> Result<Token<'a>, Refusal>
@@ -107,7 +111,12 @@ fn read_note<'a>(naming: Option<Naming>, bytes: &'a [u8]) -> Result<Token<'a>, R
     let Some(length) = read_number(digits, 1, 64) else {
         return Err(Refusal::BadOctaveOrLength);
     };
-    Ok(Token::Note(Note { name, pitch, octave: reader.octave, length }))
+    Ok(Token::Note(Note {
+        name,
+        pitch,
+        octave: reader.octave,
+        length,
+    }))
 }
 
 fn read_rest<'a>(bytes: &'a [u8]) -> Result<Token<'a>, Refusal>

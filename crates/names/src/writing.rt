@@ -47,13 +47,25 @@ fn fault_of(token: &Token) -> Option<Refusal>
     match token {
         Token::Naming(_) => None,
         Token::Syllable(bytes) => {
-            if is_syllable(bytes) { None } else { Some(Refusal::NotOfForm) }
+            if is_syllable(bytes) {
+                None
+            } else {
+                Some(Refusal::NotOfForm)
+            }
         }
         Token::Note(note) => {
-            if is_sung(note.octave, note.length) { None } else { Some(Refusal::BadOctaveOrLength) }
+            if is_sung(note.octave, note.length) {
+                None
+            } else {
+                Some(Refusal::BadOctaveOrLength)
+            }
         }
         Token::Rest { length } => {
-            if is_lasting(*length) { None } else { Some(Refusal::BadOctaveOrLength) }
+            if is_lasting(*length) {
+                None
+            } else {
+                Some(Refusal::BadOctaveOrLength)
+            }
         }
         Token::Frame { rank, .. } => rank_fault(*rank),
     }
@@ -67,9 +79,13 @@ fn spelled_length(naming: Naming, token: &Token) -> usize
     match token {
         Token::Naming(set) => set.word().len(),
         Token::Syllable(bytes) => bytes.len() + 2,
-        Token::Note(note) => name_length(naming, note.pitch) + 2 + decimal_length(u32::from(note.length)),
+        Token::Note(note) => name_length(naming, note.pitch)
+            + 2
+            + decimal_length(u32::from(note.length)),
         Token::Rest { length } => 2 + decimal_length(u32::from(*length)),
-        Token::Frame { keyword, rank } => keyword.word().len() + 1 + decimal_length(u32::from(*rank)),
+        Token::Frame { keyword, rank } => keyword.word().len()
+            + 1
+            + decimal_length(u32::from(*rank)),
     }
 }
 
@@ -130,7 +146,12 @@ fn lay_token(out: &mut [u8], at: usize, naming: Naming, token: &Token) -> usize
 }
 
 // Writes the token from the place on, and answers the place behind it.
-pub fn write_token(naming: Naming, token: &Token, out: &mut [u8], at: usize) -> Result<usize, Refusal>
+pub fn write_token(
+    naming: Naming,
+    token: &Token,
+    out: &mut [u8],
+    at: usize,
+) -> Result<usize, Refusal>
     ensures place { λ r. ⌜ r ≡ placed (malformed (said (now (token .entry)))) (now (out .entry)) at (spelled naming (said (now (token .entry)))) ⌝ }
     ensures after { λ _. ⌜ now (out .exit) ≡ buffered (malformed (said (now (token .entry)))) (now (out .entry)) at (spelled naming (said (now (token .entry)))) ⌝ }
 {

@@ -19,14 +19,20 @@ pub fn read_all(text: &[u8]) -> Outcome {
     loop {
         match reader.next_token() {
             Ok(Some(_)) => tokens = tokens.saturating_add(1),
-            Ok(None) => return Outcome { number: 0, at: tokens },
+            Ok(None) => return Outcome {
+                number: 0,
+                at: tokens,
+            },
             Err(fault) => return stopped(fault),
         }
     }
 }
 
 fn stopped(fault: Fault) -> Outcome {
-    Outcome { number: fault.number(), at: fault.byte }
+    Outcome {
+        number: fault.number(),
+        at: fault.byte,
+    }
 }
 
 #[cfg(test)]
@@ -60,46 +66,188 @@ mod tests {
     }
 
     const CASES: [Case; 34] = [
-        Case { text: b"", number: 0, at: 0 },
-        Case { text: b" \n ", number: 0, at: 0 },
-        Case { text: b"H4/4", number: 13, at: 0 },
-        Case { text: b"german Hes4/4", number: 22, at: 7 },
-        Case { text: b"english H4/4", number: 22, at: 8 },
-        Case { text: b"german H4/4 B4/4", number: 0, at: 3 },
-        Case { text: b"german Bis4/4", number: 22, at: 7 },
-        Case { text: b"german Asas4/4", number: 22, at: 7 },
-        Case { text: b"english C4", number: 23, at: 8 },
-        Case { text: b"english C", number: 23, at: 8 },
-        Case { text: b"english Cx", number: 22, at: 8 },
-        Case { text: b"english C4/4x", number: 23, at: 8 },
-        Case { text: b"english C44/4", number: 23, at: 8 },
-        Case { text: b"english C9/64", number: 0, at: 2 },
-        Case { text: b"english C9/65", number: 23, at: 8 },
-        Case { text: b"english\nC4/4\n", number: 0, at: 2 },
-        Case { text: b"r/65", number: 23, at: 0 },
-        Case { text: b"r/64", number: 0, at: 1 },
-        Case { text: b"r/0", number: 23, at: 0 },
-        Case { text: b"r/04", number: 23, at: 0 },
-        Case { text: b"r/", number: 23, at: 0 },
-        Case { text: b"bar:256", number: 12, at: 0 },
-        Case { text: b"bar:255", number: 0, at: 1 },
-        Case { text: b"bar:0 bar:0", number: 0, at: 2 },
-        Case { text: b"bar:0 bar:01", number: 12, at: 6 },
-        Case { text: b"bar", number: 12, at: 0 },
-        Case { text: b"bar:", number: 12, at: 0 },
-        Case { text: b"r", number: 12, at: 0 },
-        Case { text: b"\"\"", number: 12, at: 0 },
-        Case { text: b"\"la\"", number: 0, at: 1 },
-        Case { text: b"\"l\"a\"", number: 12, at: 0 },
-        Case { text: b"\"123456789012345678901234567890\"", number: 0, at: 1 },
-        Case { text: b"\"1234567890123456789012345678901\"", number: 12, at: 0 },
-        Case { text: b"germanx", number: 12, at: 0 },
+        Case {
+            text: b"",
+            number: 0,
+            at: 0,
+        },
+        Case {
+            text: b" \n ",
+            number: 0,
+            at: 0,
+        },
+        Case {
+            text: b"H4/4",
+            number: 13,
+            at: 0,
+        },
+        Case {
+            text: b"german Hes4/4",
+            number: 22,
+            at: 7,
+        },
+        Case {
+            text: b"english H4/4",
+            number: 22,
+            at: 8,
+        },
+        Case {
+            text: b"german H4/4 B4/4",
+            number: 0,
+            at: 3,
+        },
+        Case {
+            text: b"german Bis4/4",
+            number: 22,
+            at: 7,
+        },
+        Case {
+            text: b"german Asas4/4",
+            number: 22,
+            at: 7,
+        },
+        Case {
+            text: b"english C4",
+            number: 23,
+            at: 8,
+        },
+        Case {
+            text: b"english C",
+            number: 23,
+            at: 8,
+        },
+        Case {
+            text: b"english Cx",
+            number: 22,
+            at: 8,
+        },
+        Case {
+            text: b"english C4/4x",
+            number: 23,
+            at: 8,
+        },
+        Case {
+            text: b"english C44/4",
+            number: 23,
+            at: 8,
+        },
+        Case {
+            text: b"english C9/64",
+            number: 0,
+            at: 2,
+        },
+        Case {
+            text: b"english C9/65",
+            number: 23,
+            at: 8,
+        },
+        Case {
+            text: b"english\nC4/4\n",
+            number: 0,
+            at: 2,
+        },
+        Case {
+            text: b"r/65",
+            number: 23,
+            at: 0,
+        },
+        Case {
+            text: b"r/64",
+            number: 0,
+            at: 1,
+        },
+        Case {
+            text: b"r/0",
+            number: 23,
+            at: 0,
+        },
+        Case {
+            text: b"r/04",
+            number: 23,
+            at: 0,
+        },
+        Case {
+            text: b"r/",
+            number: 23,
+            at: 0,
+        },
+        Case {
+            text: b"bar:256",
+            number: 12,
+            at: 0,
+        },
+        Case {
+            text: b"bar:255",
+            number: 0,
+            at: 1,
+        },
+        Case {
+            text: b"bar:0 bar:0",
+            number: 0,
+            at: 2,
+        },
+        Case {
+            text: b"bar:0 bar:01",
+            number: 12,
+            at: 6,
+        },
+        Case {
+            text: b"bar",
+            number: 12,
+            at: 0,
+        },
+        Case {
+            text: b"bar:",
+            number: 12,
+            at: 0,
+        },
+        Case {
+            text: b"r",
+            number: 12,
+            at: 0,
+        },
+        Case {
+            text: b"\"\"",
+            number: 12,
+            at: 0,
+        },
+        Case {
+            text: b"\"la\"",
+            number: 0,
+            at: 1,
+        },
+        Case {
+            text: b"\"l\"a\"",
+            number: 12,
+            at: 0,
+        },
+        Case {
+            text: b"\"123456789012345678901234567890\"",
+            number: 0,
+            at: 1,
+        },
+        Case {
+            text: b"\"1234567890123456789012345678901\"",
+            number: 12,
+            at: 0,
+        },
+        Case {
+            text: b"germanx",
+            number: 12,
+            at: 0,
+        },
     ];
 
     #[test]
     fn texts_end_as_they_should() -> Result<(), Fail> {
         for case in CASES.iter() {
-            check_eq(read_all(case.text), Outcome { number: case.number, at: case.at })?;
+            check_eq(
+                read_all(case.text),
+                Outcome {
+                    number: case.number,
+                    at: case.at,
+                },
+            )?;
         }
         Ok(())
     }
@@ -119,8 +267,14 @@ mod tests {
 
     #[test]
     fn h_is_never_b_flat() -> Result<(), Fail> {
-        let natural = Pitch { step: Step::B, alteration: Alteration::Natural };
-        let flat = Pitch { step: Step::B, alteration: Alteration::Flat };
+        let natural = Pitch {
+            step: Step::B,
+            alteration: Alteration::Natural,
+        };
+        let flat = Pitch {
+            step: Step::B,
+            alteration: Alteration::Flat,
+        };
         check_eq(read_name(Naming::German, b"H"), Ok(natural))?;
         check_eq(read_name(Naming::German, b"B"), Ok(flat))?;
         check_eq(read_name(Naming::English, b"B"), Ok(natural))?;
@@ -130,7 +284,10 @@ mod tests {
 
     #[test]
     fn a_name_fills_its_buffer() -> Result<(), Fail> {
-        let pitch = Pitch { step: Step::B, alteration: Alteration::DoubleFlat };
+        let pitch = Pitch {
+            step: Step::B,
+            alteration: Alteration::DoubleFlat,
+        };
         let mut out = [b'.'; 6];
         check_eq(write_name(Naming::German, pitch, &mut out), Ok(5))?;
         check(out == *b"Heses.")?;
@@ -146,8 +303,16 @@ mod tests {
 
     #[test]
     fn a_token_is_written_in_its_place() -> Result<(), Fail> {
-        let pitch = Pitch { step: Step::F, alteration: Alteration::Sharp };
-        let note = Token::Note(Note { name: b"F#", pitch, octave: 4, length: 64 });
+        let pitch = Pitch {
+            step: Step::F,
+            alteration: Alteration::Sharp,
+        };
+        let note = Token::Note(Note {
+            name: b"F#",
+            pitch,
+            octave: 4,
+            length: 64,
+        });
         let mut out = [b'.'; 9];
         check_eq(write_token(Naming::German, &note, &mut out, 1), Ok(8))?;
         check(out == *b".Fis4/64.")?;
@@ -156,7 +321,10 @@ mod tests {
             Err(Refusal::BufferTooShort),
         )?;
         check(out == *b".Fis4/64.")?;
-        let frame = Token::Frame { keyword: Keyword::Alto1, rank: 255 };
+        let frame = Token::Frame {
+            keyword: Keyword::Alto1,
+            rank: 255,
+        };
         check_eq(write_token(Naming::English, &frame, &mut out, 0), Ok(9))?;
         check(out == *b"alto1:255")
     }

@@ -56,20 +56,20 @@ module _ (to : Naming) (t : Said) (out : List ℕ) (e : malformed t ≡ None) (s
   -- the front of the buffer is the token
   pub front-is : (end : ℕ) (after : List ℕ) → Ok end ≡ placed (malformed t) out 0 (spelled to t) → after ≡ buffered (malformed t) out 0 (spelled to t) → take end after ≡ spelled to t
   front-is end after p b =
-    let q : _≡_ {A = Result ℕ Refusal} (Ok end) (Ok (0 + length (spelled to t))) = p ∙ place-is in
-    let k : end ≡ 0 + length (spelled to t) = cc in
-    let n : end ≡ length (spelled to t) = omega arith in
-    ap (λ k. take k after) n ∙ ap (take (length (spelled to t))) (b ∙ buffer-is) ∙ laid-front out (spelled to t)
+      let q : _≡_ {A = Result ℕ Refusal} (Ok end) (Ok (0 + length (spelled to t))) = p ∙ place-is in
+      let k : end ≡ 0 + length (spelled to t) = cc in
+      let n : end ≡ length (spelled to t) = omega arith in
+      ap (λ k. take k after) n ∙ ap (take (length (spelled to t))) (b ∙ buffer-is) ∙ laid-front out (spelled to t)
 
 pub appends : (old mid new word typed : List ℕ) (to : Naming) (t : Told) (same : Bool) → isWord (t .says) ≡ true → word ≡ spelled to (t .says) → mid ≡ old ++ 32 ∷ [] → new ≡ mid ++ word → t .typed ≡ typed → Decides same (word ≡ typed) → Appends old new to t (not same)
 appends old mid new word typed to t same w e m n y d =
-    record
-    { line = n ∙ ap (λ xs. xs ++ word) m ∙ append-assoc old (32 ∷ []) word ∙ ap (λ xs. old ++ 32 ∷ xs) e ∙ ap (λ xs. old ++ xs) (sym (cond-true (isWord (t .says)) (32 ∷ spelled to (t .says)) [] w))
-    ; tells =
-        ap not (same-from-decides same (sameBytes word typed) d (sameBytes-decides word typed))
-        ∙ ap (λ xs. not (sameBytes xs typed)) e
-        ∙ ap (λ xs. not (sameBytes (spelled to (t .says)) xs)) (sym y)
-        ∙ sym (cond-true (isWord (t .says)) (not (sameBytes (spelled to (t .says)) (t .typed))) false w)
+    record {
+      line = n ∙ ap (λ xs. xs ++ word) m ∙ append-assoc old (32 ∷ []) word ∙ ap (λ xs. old ++ 32 ∷ xs) e ∙ ap (λ xs. old ++ xs) (sym (cond-true (isWord (t .says)) (32 ∷ spelled to (t .says)) [] w));
+      tells =
+          ap not (same-from-decides same (sameBytes word typed) d (sameBytes-decides word typed))
+          ∙ ap (λ xs. not (sameBytes xs typed)) e
+          ∙ ap (λ xs. not (sameBytes (spelled to (t .says)) xs)) (sym y)
+          ∙ sym (cond-true (isWord (t .says)) (not (sameBytes (spelled to (t .says)) (t .typed))) false w);
     }
 
 -- a reader that was opened tells what the text tells
@@ -95,11 +95,11 @@ sofar-start text to done x e d =
     let o = opens text x e in
     let f = text-few text (o .1) in
     let n = ap (λ y. length (y .tokens)) (o .0) in
-    record
-    { words = ap (λ xs. xs ++ spaced to (wordsOf (x .tokens))) d ∙ ap (λ y. line to (wordsOf (y .tokens))) (o .0)
-    ; fault = ap (λ y. y .fault) (o .0)
-    ; seen = ap (λ y. tallied to none (y .tokens)) (o .0)
-    ; room = record { tokens = omega arith; notes = omega arith; syllables = omega arith; rests = omega arith; frames = omega arith; changed = omega arith }
+    record {
+      words = ap (λ xs. xs ++ spaced to (wordsOf (x .tokens))) d ∙ ap (λ y. line to (wordsOf (y .tokens))) (o .0);
+      fault = ap (λ y. y .fault) (o .0);
+      seen = ap (λ y. tallied to none (y .tokens)) (o .0);
+      room = record { tokens = omega arith; notes = omega arith; syllables = omega arith; rests = omega arith; frames = omega arith; changed = omega arith };
     }
 
 one-small : (b : Bool) → one b ≤ 1
@@ -136,11 +136,11 @@ sofar-more text to done done′ y y′ x x′ t b s e l a g =
     let tokens : x′ .tokens ≡ ts = ap (λ z. z .tokens) l in
     let n = ap length e in
     let m = ap length tokens in
-    record
-    { words = ap (λ xs. xs ++ spaced to (wordsOf (x′ .tokens))) (a .line) ∙ ap (λ us. (done ++ appended to (t .says)) ++ spaced to (wordsOf us)) tokens ∙ words-more to done t ts ∙ ap (λ us. done ++ spaced to (wordsOf us)) (sym e) ∙ s .words
-    ; fault = ap (λ z. z .fault) l ∙ s .fault
-    ; seen = ap (λ us. tallied to y′ us) tokens ∙ ap (λ z. tallied to z ts) g ∙ ap (λ c. tallied to (added y (t .says) c) ts) (a .tells) ∙ ap (tallied to y) (sym e) ∙ s .seen
-    ; room = let r = room-more y (t .says) b (length (x .tokens)) (length (x′ .tokens)) (s .room) (omega arith) in rw g r
+    record {
+      words = ap (λ xs. xs ++ spaced to (wordsOf (x′ .tokens))) (a .line) ∙ ap (λ us. (done ++ appended to (t .says)) ++ spaced to (wordsOf us)) tokens ∙ words-more to done t ts ∙ ap (λ us. done ++ spaced to (wordsOf us)) (sym e) ∙ s .words;
+      fault = ap (λ z. z .fault) l ∙ s .fault;
+      seen = ap (λ us. tallied to y′ us) tokens ∙ ap (λ z. tallied to z ts) g ∙ ap (λ c. tallied to (added y (t .says) c) ts) (a .tells) ∙ ap (tallied to y) (sym e) ∙ s .seen;
+      room = let r = room-more y (t .says) b (length (x .tokens)) (length (x′ .tokens)) (s .room) (omega arith) in rw g r;
     }
 
 module _ (text : List ℕ) (to : Naming) (done new : List ℕ) (y : Tally) (x : Telling) (s : Sofar text to done y x) (e : x .tokens ≡ []) (f : x .fault ≡ None) (n : new ≡ done ++ 10 ∷ []) where
@@ -160,11 +160,11 @@ module _ (text : List ℕ) (to : Naming) (done new : List ℕ) (y : Tally) (x : 
   pub renews : length new ≤ 65536 → Renews text to new y
   unfolding tallied
   renews h =
-    let l : length (line to (wordsOf (textTold text .tokens))) ≤ 65536 = let k = ap length whole-line in omega arith in
-    let b = line-laws .back to (wordsOf (textTold text .tokens)) (line-laws .typable text) l in
-    record
-    { made = renamed-is ∙ cond-true (leb (length new) 65536) _ _ (le-leb (length new) 65536 h)
-    ; seen = ap (tallied to y) (sym e) ∙ s .seen
-    ; same = ap (λ bs. wordsOf (textTold bs .tokens)) whole-line ∙ b .0
-    ; whole = ap (λ bs. textTold bs .fault) whole-line ∙ b .1
-    }
+      let l : length (line to (wordsOf (textTold text .tokens))) ≤ 65536 = let k = ap length whole-line in omega arith in
+      let b = line-laws .back to (wordsOf (textTold text .tokens)) (line-laws .typable text) l in
+      record {
+        made = renamed-is ∙ cond-true (leb (length new) 65536) _ _ (le-leb (length new) 65536 h);
+        seen = ap (tallied to y) (sym e) ∙ s .seen;
+        same = ap (λ bs. wordsOf (textTold bs .tokens)) whole-line ∙ b .0;
+        whole = ap (λ bs. textTold bs .fault) whole-line ∙ b .1;
+      }

@@ -60,13 +60,13 @@ none = record { tokens = 0; notes = 0; syllables = 0; rests = 0; frames = 0; cha
 -- one token more
 abbrev pub added : Tally → Said → Bool → Tally
 added y t changed =
-    record
-    { tokens = y .tokens + 1
-    ; notes = y .notes + one (isNote t)
-    ; syllables = y .syllables + one (isSyllable t)
-    ; rests = y .rests + one (isRest t)
-    ; frames = y .frames + one (isFrame t)
-    ; changed = y .changed + one changed
+    record {
+      tokens = y .tokens + 1;
+      notes = y .notes + one (isNote t);
+      syllables = y .syllables + one (isSyllable t);
+      rests = y .rests + one (isRest t);
+      frames = y .frames + one (isFrame t);
+      changed = y .changed + one changed;
     }
 
 -- counts that are far from their limit

@@ -87,7 +87,12 @@ fn refusal(heap: Global, fault: Fault) -> io::Result<String> {
     Ok(format!(heap, "refused {number} byte {byte}: {reason}")?)
 }
 
-fn tell(rt: &LibcRuntime, options: &Options, bytes: usize, renamed: &Renamed) -> Result<(), AnyError> {
+fn tell(
+    rt: &LibcRuntime,
+    options: &Options,
+    bytes: usize,
+    renamed: &Renamed,
+) -> Result<(), AnyError> {
     if !options.plain {
         tell_steps(rt, options, bytes, renamed)?;
     }
@@ -95,7 +100,12 @@ fn tell(rt: &LibcRuntime, options: &Options, bytes: usize, renamed: &Renamed) ->
     Ok(())
 }
 
-fn tell_steps(rt: &LibcRuntime, options: &Options, bytes: usize, renamed: &Renamed) -> io::Result<()> {
+fn tell_steps(
+    rt: &LibcRuntime,
+    options: &Options,
+    bytes: usize,
+    renamed: &Renamed,
+) -> io::Result<()> {
     let tally = renamed.tally;
     let (tokens, notes, changed) = (tally.tokens, tally.notes, tally.changed);
     let (syllables, rests, frames) = (tally.syllables, tally.rests, tally.frames);

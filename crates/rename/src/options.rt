@@ -23,7 +23,12 @@ pub struct Options {
 
 impl Options {
     pub fn usual() -> Options {
-        Options { to: Naming::English, plain: false, help: false, file: None }
+        Options {
+            to: Naming::English,
+            plain: false,
+            help: false,
+            file: None,
+        }
     }
 }
 
@@ -69,5 +74,9 @@ pub fn parse(words: impl Iterator<Item = String> + Drop) -> Result<Options, Slip
             _ => options.file = Some(word),
         }
     }
-    if naming_wanted { Err(Slip::NoNaming) } else { Ok(options) }
+    if naming_wanted {
+        Err(Slip::NoNaming)
+    } else {
+        Ok(options)
+    }
 }

@@ -113,14 +113,24 @@ pub fn rename(heap: Global, text: &[u8], to: Naming) -> Result<Renamed, Unrename
 {
     let mut reader = Reader::over(text)?;
     let mut line = Vec::from_slice(heap, to.word())?;
-    let mut tally = Tally { tokens: 0, notes: 0, syllables: 0, rests: 0, frames: 0, changed: 0 };
+    let mut tally = Tally {
+        tokens: 0,
+        notes: 0,
+        syllables: 0,
+        rests: 0,
+        frames: 0,
+        changed: 0,
+    };
     while let Some(placed) = reader.next_token()? {
         let changed = append(&mut line, to, &placed)?;
         tally.add(&placed.token, changed);
     }
     line.push(b'\n')?;
     if line.len() > 65536 {
-        return Err(Unrenamed::Fault(Fault { refusal: Refusal::TextTooLong, byte: 0 }));
+        return Err(Unrenamed::Fault(Fault {
+            refusal: Refusal::TextTooLong,
+            byte: 0,
+        }));
     }
     Ok(Renamed { text: line, tally })
 }

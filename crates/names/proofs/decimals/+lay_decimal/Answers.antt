@@ -31,8 +31,8 @@ pub returns : need.returns
 returns t c =
     let h = length-step (c .args .number) (search needs) (omega arith) in
     let d = decimal-step (c .args .number) (search needs) (omega arith) in
-    record
-    { place = omega arith
-    ; after =
-        laid-then (c .args .out .now) (c .lay-decimal-place .last .out) (c .lay-byte-2 .last .out) (decimal (c .args .number / 10)) ((48 + c .args .number % 10) ∷ []) (decimal (c .args .number)) (c .args .at) (c .lay-decimal-place .result) (sym d) (c .lay-decimal-place .ensures .place) (c .pre) (c .lay-decimal-place .ensures .after) (c .lay-byte-2 .ensures .after)
+    record {
+      place = omega arith;
+      after =
+          laid-then (c .args .out .now) (c .lay-decimal-place .last .out) (c .lay-byte-2 .last .out) (decimal (c .args .number / 10)) ((48 + c .args .number % 10) ∷ []) (decimal (c .args .number)) (c .args .at) (c .lay-decimal-place .result) (sym d) (c .lay-decimal-place .ensures .place) (c .pre) (c .lay-decimal-place .ensures .after) (c .lay-byte-2 .ensures .after);
     }

@@ -57,9 +57,9 @@ returns c =
     let b = c .split-at .ensures .back ∙ back-is bs (c .scan-reader .result) (c .scan-reader .ensures) in
     let l = ap lengthRead (ap (drop 2) (sym b) ∙ sym (c .split-at-2 .ensures .back)) ∙ sym (c .read-number .ensures) ∙ c .in-Some-read-number .is in
     let o = octave-is bs (c .scan-reader .result) (c .scan-reader .ensures) t in
-    record
-    { value =
-        ap (λ x. Ok (note (c .in-Continue-pitch .pitch) x (c .in-Some-read-number .length))) o
-        ∙ sym (ap (λ x. noteRead x bs) (c .in-Some .is) ∙ note-tailed (c .in-Some .naming) bs (c .in-Continue-pitch .pitch) (Some (c .in-Some-read-number .length)) n t l)
-    ; borrows = f
+    record {
+      value =
+          ap (λ x. Ok (note (c .in-Continue-pitch .pitch) x (c .in-Some-read-number .length))) o
+          ∙ sym (ap (λ x. noteRead x bs) (c .in-Some .is) ∙ note-tailed (c .in-Some .naming) bs (c .in-Continue-pitch .pitch) (Some (c .in-Some-read-number .length)) n t l);
+      borrows = f;
     }

@@ -11,9 +11,9 @@ returns-then-not-is-quoted c = record { value = sym (unquoted (c .args .bytes .n
 
 pub returns-then-is-syllable : need.returns-then-is-syllable
 returns-then-is-syllable c =
-    record
-    { value = sym (syllable-is (c .args .bytes .now) _ refl (sym (c .is-quoted .ensures) ∙ c .if-not-is-quoted .left) (sym (c .is-syllable .ensures) ∙ c .if-is-syllable .taken))
-    ; borrows = tt
+    record {
+      value = sym (syllable-is (c .args .bytes .now) _ refl (sym (c .is-quoted .ensures) ∙ c .if-not-is-quoted .left) (sym (c .is-syllable .ensures) ∙ c .if-is-syllable .taken));
+      borrows = tt;
     }
 
 pub returns-else-is-syllable : need.returns-else-is-syllable

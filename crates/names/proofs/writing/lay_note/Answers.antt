@@ -43,7 +43,7 @@ returns c =
     let e = c .lay-name-octave .ensures .place in
     let f = c .lay-marked .ensures .place in
     let whole : nm ++ marked ((48 + x .octave) ∷ []) 47 (x .length) ≡ spelled (c .args .naming) (noted x) = sym (append-assoc nm ((48 + x .octave) ∷ []) (47 ∷ decimal (x .length))) in
-    record
-    { place = omega arith
-    ; after = laid-then (c .args .out .now) (c .lay-name-octave .last .out) (c .lay-marked .last .out) nm (marked ((48 + x .octave) ∷ []) 47 (x .length)) (spelled (c .args .naming) (noted x)) (c .args .at) (c .lay-name-octave .result) whole e (c .pre .room) (c .lay-name-octave .ensures .after) (c .lay-marked .ensures .after)
+    record {
+      place = omega arith;
+      after = laid-then (c .args .out .now) (c .lay-name-octave .last .out) (c .lay-marked .last .out) nm (marked ((48 + x .octave) ∷ []) 47 (x .length)) (spelled (c .args .naming) (noted x)) (c .args .at) (c .lay-name-octave .result) whole e (c .pre .room) (c .lay-name-octave .ensures .after) (c .lay-marked .ensures .after);
     }

@@ -24,8 +24,8 @@ returns c =
     let q = c .lay-end .ensures .place in
     let r = c .lay-byte .ensures .place in
     let two : c .lay-end .last .out ≡ laid out (c .args .at) (34 ∷ bs) =
-        laid-then out (c .lay-byte-inside .last .out) (c .lay-end .last .out) (34 ∷ []) bs (34 ∷ bs) (c .args .at) (c .lay-byte-inside .result) refl p (omega arith) (c .lay-byte-inside .ensures .after) (c .lay-end .ensures .after) in
-    record
-    { place = omega arith
-    ; after = laid-then out (c .lay-end .last .out) (c .lay-byte .last .out) (34 ∷ bs) (34 ∷ []) (quotes bs) (c .args .at) (c .lay-end .result) refl (omega arith) (c .pre) two (c .lay-byte .ensures .after)
+    laid-then out (c .lay-byte-inside .last .out) (c .lay-end .last .out) (34 ∷ []) bs (34 ∷ bs) (c .args .at) (c .lay-byte-inside .result) refl p (omega arith) (c .lay-byte-inside .ensures .after) (c .lay-end .ensures .after) in
+    record {
+      place = omega arith;
+      after = laid-then out (c .lay-end .last .out) (c .lay-byte .last .out) (34 ∷ bs) (34 ∷ []) (quotes bs) (c .args .at) (c .lay-end .result) refl (omega arith) (c .pre) two (c .lay-byte .ensures .after);
     }
