@@ -5,7 +5,7 @@ use mathlib.Core.Bool.{Bool, true, false, cond, not}
 use mathlib.Core.List.{List, [], _∷_, _++_}
 use lib.Dec.{leb}
 use lib.ListN.{length}
-use Rattle.std.specs.Of.Vec.{vec-items}
+use Rattle.std.specs.Of.Vec.{vec-items, vec-len}
 use Rattle.std.specs.declared.option.Option.{Option}
 use Rattle.std.specs.declared.option.Option.the-variants.{Some, None}
 use Rattle.std.specs.declared.result.Result.{Result}
@@ -113,6 +113,16 @@ pub record Renews (text : List ℕ) (to : Naming) (new : List ℕ) (tally : Tall
   pub seen : tally ≡ tallied to none (textTold text .tokens)
   pub same : wordsOf (textTold new .tokens) ≡ wordsOf (textTold text .tokens)
   pub whole : textTold new .fault ≡ None
+
+-- a line that is a new text if it is not too long
+pub record Rewritten (text : List ℕ) (to : Naming) (new : List ℕ) (size : ℕ) (tally : Tally) : Type 0 where
+  pub short : size ≤ 65536 → Renews text to new tally
+  pub long : 65536 < size → renamed to text ≡ Err (record { refusal = TextTooLong; byte = 0 })
+
+abbrev pub Rewrites : List ℕ → Naming → Result Renamed Unrenamed → Type 0
+Rewrites text to (Ok x) = Rewritten text to (vec-items (x .text)) (vec-len (x .text)) (x .tally)
+Rewrites text to (Err (unrenamed.Fault f)) = renamed to text ≡ Err f
+Rewrites text to (Err unrenamed.Memory) = Unit {0}
 
 abbrev pub Renames : List ℕ → Naming → Result Renamed Unrenamed → Type 0
 Renames text to (Ok x) = Renews text to (vec-items (x .text)) (x .tally)

@@ -1,5 +1,7 @@
 // What the command line asks for.
 use names::Naming;
+use std::alloc::Global;
+use std::env::Args;
 
 pub const HELP: &str = "Usage: rename [--to german|english] [--plain] [FILE]
 Rewrites a typed text in the note names of one naming.
@@ -51,9 +53,7 @@ impl Slip {
 }
 
 // The options of the words behind the program's name.
-pub fn parse(words: impl Iterator<Item = String> + Drop) -> Result<Options, Slip>
-    requires { ⌜ can words × ends words ⌝ }
-{
+pub fn parse(words: Args<Global>) -> Result<Options, Slip> {
     let mut options = Options::usual();
     let mut naming_wanted = false;
     for word in words {

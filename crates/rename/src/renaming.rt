@@ -8,7 +8,7 @@ ghost use Rattle.names.specs.Heard.{said};
 ghost use Rattle.names.specs.Reader.{toldOf};
 ghost use Rattle.names.specs.Tokens.{malformed};
 ghost use Rattle.std.specs.declared.option.Option.the-variants.{None};
-ghost use Rattle.rename.specs.Renaming.{Few, added, Appends, Renames};
+ghost use Rattle.rename.specs.Renaming.{Few, added, Appends, Rewrites, Renames};
 ghost use Rattle.rename.specs.declared.renaming.Unrenamed.the-variants.{Fault as Faulty, Memory};
 use names::Fault;
 use names::Naming;
@@ -107,9 +107,9 @@ fn append(line: &mut Vec<u8>, to: Naming, placed: &Placed) -> Result<bool, Alloc
     Ok(!same)
 }
 
-// The words of the text as one line in the naming.
-pub fn rename(heap: Global, text: &[u8], to: Naming) -> Result<Renamed, Unrenamed>
-    ensures { λ r. ⌜ Renames (now (text .entry)) to r ⌝ }
+// The words of the text as one line in the naming, however long, and what was seen of the text.
+fn rewrite(heap: Global, text: &[u8], to: Naming) -> Result<Renamed, Unrenamed>
+    ensures { λ r. ⌜ Rewrites (now (text .entry)) to r ⌝ }
 {
     let mut reader = Reader::over(text)?;
     let mut line = Vec::from_slice(heap, to.word())?;
@@ -126,11 +126,23 @@ pub fn rename(heap: Global, text: &[u8], to: Naming) -> Result<Renamed, Unrename
         tally.add(&placed.token, changed);
     }
     line.push(b'\n')?;
-    if line.len() > 65536 {
-        return Err(Unrenamed::Fault(Fault {
-            refusal: Refusal::TextTooLong,
-            byte: 0,
-        }));
-    }
     Ok(Renamed { text: line, tally })
+}
+
+// The words of the text as a text in the naming.
+pub fn rename(heap: Global, text: &[u8], to: Naming) -> Result<Renamed, Unrenamed>
+    ensures { λ r. ⌜ Renames (now (text .entry)) to r ⌝ }
+{
+    match rewrite(heap, text, to) {
+        Ok(renamed) => {
+            if renamed.text.len() > 65536 {
+                return Err(Unrenamed::Fault(Fault {
+                    refusal: Refusal::TextTooLong,
+                    byte: 0,
+                }));
+            }
+            Ok(renamed)
+        }
+        Err(unrenamed) => Err(unrenamed),
+    }
 }

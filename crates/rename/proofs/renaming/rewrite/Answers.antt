@@ -8,7 +8,7 @@ use Rattle.names.specs.Reader.{unread, toldOf, toldNext}
 use Rattle.names.specs.Texts.{pieces}
 use Rattle.names.proofs.Lines.{told-formed}
 use Rattle.rename.proofs.Renewing.{first-some, first-none, sofar-start, sofar-more, too-long, renews}
-use Rattle.rename.proofs.renaming.rename.Needs as need
+use Rattle.rename.proofs.renaming.rewrite.Needs as need
 
 pub loop-line-holds : need.loop-line-holds
 loop-line-holds c =
@@ -27,14 +27,13 @@ loop-line-again c =
     let e = first-some (x .tokens) (x .fault) t (ap (λ o. toldNext (Ok o)) (sym (c .in-Some .is)) ∙ c .in-Continue-placed .ensures tt .value) in
     sofar-more (c .args .text .now) (c .args .to) (vec-items (c .loop-line .line)) (vec-items (c .append .last .line)) (c .loop-line .tally) (c .add .last .self) x (unread (c .next-token .last .self)) t (c .in-Continue-changed .changed) (c .loop-line .inv) e (c .next-token .ensures .left) (c .in-Continue-changed .ensures tt) (c .add .ensures)
 
-pub returns-then-len-gt65536 : need.returns-then-len-gt65536
-returns-then-len-gt65536 c =
-    let x = unread (c .loop-line .reader) in
-    let z = first-none (x .tokens) (x .fault) (ap (λ o. toldNext (Ok o)) (sym (c .in-rest .is)) ∙ c .in-Continue-placed .ensures tt .value) in
-    too-long (c .args .text .now) (c .args .to) (vec-items (c .loop-line .line)) (vec-items (c .push .last .self)) (c .loop-line .tally) x (c .loop-line .inv) (z .0) (z .1) (c .in-Continue-push .ensures tt .items) (search needs)
-
 pub returns : need.returns
 returns c =
     let x = unread (c .loop-line .reader) in
     let z = first-none (x .tokens) (x .fault) (ap (λ o. toldNext (Ok o)) (sym (c .in-rest .is)) ∙ c .in-Continue-placed .ensures tt .value) in
-    renews (c .args .text .now) (c .args .to) (vec-items (c .loop-line .line)) (vec-items (c .push .last .self)) (c .loop-line .tally) x (c .loop-line .inv) (z .0) (z .1) (c .in-Continue-push .ensures tt .items) (search needs)
+    let new = c .push .last .self in
+    let n = new .ok .0 in
+    record {
+      short = λ h. renews (c .args .text .now) (c .args .to) (vec-items (c .loop-line .line)) (vec-items new) (c .loop-line .tally) x (c .loop-line .inv) (z .0) (z .1) (c .in-Continue-push .ensures tt .items) (search needs);
+      long = λ h. too-long (c .args .text .now) (c .args .to) (vec-items (c .loop-line .line)) (vec-items new) (c .loop-line .tally) x (c .loop-line .inv) (z .0) (z .1) (c .in-Continue-push .ensures tt .items) (search needs);
+    }
