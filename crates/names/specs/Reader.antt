@@ -14,7 +14,7 @@ use Rattle.names.specs.declared.refusals.Refusal.the-variants.{TextTooLong}
 use Rattle.names.specs.declared.texts.Cut.{Cut}
 use Rattle.names.specs.declared.texts.Placed.{Placed}
 use Rattle.names.specs.declared.texts.Reader.{Reader}
-use Rattle.names.specs.Heard.{said}
+use Rattle.names.specs.Heard.{said, Borrows}
 use Rattle.names.specs.Texts.{Piece, Told, Telling, pieces, told}
 
 abbrev pub pieceOf : Cut → Piece
@@ -35,6 +35,12 @@ abbrev pub toldNext : Result (Option Placed) Fault → Result (Option Told) Faul
 toldNext (Ok (Some p)) = Ok (Some (toldOf p))
 toldNext (Ok None) = Ok None
 toldNext (Err f) = Err f
+
+-- a note's name is borrowed from the bytes of its token
+abbrev pub Lends : Result (Option Placed) Fault → Type 0
+Lends (Ok (Some p)) = Borrows (p .bytes .now) (p .token)
+Lends (Ok None) = Unit {0}
+Lends (Err f) = Unit {0}
 
 abbrev pub opened : Result Reader Fault → Result Telling Fault
 opened (Ok r) = Ok (unread r)

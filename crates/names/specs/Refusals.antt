@@ -1,7 +1,5 @@
 -- The list of refusals: the number and the layer of each. Assumes nothing.
 use Prim.Native.Nat.{ℕ}
-use mathlib.Core.List.{List}
-use lib.Chars.{codes}
 use Rattle.names.specs.declared.refusals.Refusal.{Refusal}
 use Rattle.names.specs.declared.refusals.Refusal.the-variants.{TextTooLong, TokenTooLong, NotOfForm, NoNaming, OutOfRange, UnknownName, BadOctaveOrLength, RankAboveTops, BookFull, RegisterFull, NoSuchPosition, NoSuchRepeat, TableTooShort, NotAScore, NoSuchVoice, NeverTyped, NameBufferTooShort, BufferTooShort}
 use Rattle.names.specs.declared.refusals.Layer.{Layer}
@@ -45,24 +43,3 @@ layerNumber Text = 0
 layerNumber Name = 1
 layerNumber Book = 2
 layerNumber Sheet = 3
-
--- the reason in words
-abbrev pub reason : Refusal → List ℕ
-reason TextTooLong = codes "the text is longer than 65536 bytes"
-reason TokenTooLong = codes "the token is longer than 64 bytes"
-reason NotOfForm = codes "this is no frame such as bar:2 and no syllable such as \"la\""
-reason NoNaming = codes "a note stands before the first word german or english"
-reason OutOfRange = codes "there is no such naming, step or alteration"
-reason UnknownName = codes "the note's name is not in the list of its naming"
-reason BadOctaveOrLength = codes "the octave is not one digit or the length is not /1 to /64"
-reason RankAboveTops = codes "the word asks for more passages than are open"
-reason BookFull = codes "the book holds 4096 words already"
-reason RegisterFull = codes "the register has too few free places for the word"
-reason NoSuchPosition = codes "no word stands at that position"
-reason NoSuchRepeat = codes "there is no repeat of that number"
-reason TableTooShort = codes "the table is too short for the ends of the repeat"
-reason NotAScore = codes "the book does not hold exactly one score"
-reason NoSuchVoice = codes "the score has no such voice"
-reason NeverTyped = codes "a word to be printed is none that can be typed"
-reason NameBufferTooShort = codes "the buffer is too short for the name"
-reason BufferTooShort = codes "the buffer is too short"

@@ -2,7 +2,7 @@
 ghost use mathlib.Core.Path.{_≡_};
 ghost use Rattle.names.specs.Keywords.{keywordNumber, keywordNumbered, keywordWord, keywordNamed, Worded};
 
-#[derive(Clone, Copy, PartialEq, Eq, Debug)]
+#[derive(Clone, Copy, PartialEq, Eq)]
 pub enum Keyword {
     Bar,
     Verse,

@@ -3,13 +3,13 @@ ghost use mathlib.Core.Path.{_≡_};
 ghost use Rattle.names.specs.Pitches.{namingNumber, namingNumbered, namingWord, namingNamed, stepNumber, stepNumbered, alterationNumber, alterationNumbered};
 
 // The list of names in which notes are read or written.
-#[derive(Clone, Copy, PartialEq, Eq, Debug)]
+#[derive(Clone, Copy, PartialEq, Eq)]
 pub enum Naming {
     English,
     German,
 }
 
-#[derive(Clone, Copy, PartialEq, Eq, Debug)]
+#[derive(Clone, Copy, PartialEq, Eq)]
 pub enum Step {
     C,
     D,
@@ -20,7 +20,7 @@ pub enum Step {
     B,
 }
 
-#[derive(Clone, Copy, PartialEq, Eq, Debug)]
+#[derive(Clone, Copy, PartialEq, Eq)]
 pub enum Alteration {
     DoubleFlat,
     Flat,
@@ -29,7 +29,7 @@ pub enum Alteration {
     DoubleSharp,
 }
 
-#[derive(Clone, Copy, PartialEq, Eq, Debug)]
+#[derive(Clone, Copy, PartialEq, Eq)]
 pub struct Pitch {
     pub step: Step,
     pub alteration: Alteration,

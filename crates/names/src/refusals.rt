@@ -1,9 +1,10 @@
 // Everything the project refuses, in one list. A refusal's number and layer are part of the format.
 ghost use mathlib.Core.Path.{_≡_};
 ghost use mathlib.Core.Bool.{true};
-ghost use Rattle.names.specs.Refusals.{number, layer, reason, layerNumber};
+ghost use Rattle.names.specs.Refusals.{number, layer, layerNumber};
+use std::fmt;
 
-#[derive(Clone, Copy, Debug)]
+#[derive(Clone, Copy)]
 pub enum Refusal {
     TextTooLong,
     TokenTooLong,
@@ -26,7 +27,7 @@ pub enum Refusal {
 }
 
 // The part of the project that refuses.
-#[derive(Clone, Copy, PartialEq, Eq, Debug)]
+#[derive(Clone, Copy, PartialEq, Eq)]
 pub enum Layer {
     Text,
     Name,
@@ -35,7 +36,7 @@ pub enum Layer {
 }
 
 // A refusal and where it was met: the byte where its token begins, or 0 where no token is at fault.
-#[derive(Clone, Copy, PartialEq, Eq, Debug)]
+#[derive(Clone, Copy, PartialEq, Eq)]
 pub struct Fault {
     pub refusal: Refusal,
     pub byte: usize,
@@ -89,10 +90,8 @@ impl Refusal {
         }
     }
 
-    // The reason, for people.
-    pub fn reason(self) -> &'static str
-        ensures { λ r. ⌜ now r ≡ reason self ⌝ }
-    {
+    // The reason in words.
+    fn reason(self) -> &'static str {
         match self {
             Refusal::TextTooLong => "the text is longer than 65536 bytes",
             Refusal::TokenTooLong => "the token is longer than 64 bytes",
@@ -136,5 +135,12 @@ impl Fault {
         ensures { λ r. ⌜ r ≡ layer (self .refusal) ⌝ }
     {
         self.refusal.layer()
+    }
+}
+
+// The reason in words, for people.
+pub impl fmt::Display for Refusal as RefusalDisplay {
+    fn fmt<W: fmt::Write>(&self, f: &mut fmt::Formatter<W>) -> fmt::Result {
+        f.write_str(self.reason())
     }
 }

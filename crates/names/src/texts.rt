@@ -6,7 +6,7 @@ ghost use lib.ListN.{length, drop};
 ghost use Rattle.std.specs.Results.{Cases};
 ghost use Rattle.std.specs.declared.option.Option.the-variants.{None};
 ghost use Rattle.names.specs.Cutting.{Skipped, Ended};
-ghost use Rattle.names.specs.Reader.{CutsFirst, unread, toldNext, opened, opening};
+ghost use Rattle.names.specs.Reader.{CutsFirst, unread, toldNext, Lends, opened, opening};
 ghost use Rattle.names.specs.Heard.{said};
 ghost use Rattle.names.specs.Texts.{firstOf, later, naming-after, pieces, told};
 ghost use Rattle.names.specs.TextLaws.{TextLaws};
@@ -117,6 +117,7 @@ impl<'a> Reader<'a> {
     // The next token, or none at the end. A fault stays: the reader does not go past it.
     pub fn next_token(&mut self) -> Result<Option<Placed<'a>>, Fault>
         ensures value { λ r. ⌜ toldNext r ≡ firstOf (unread (now (self .entry)) .tokens) (unread (now (self .entry)) .fault) ⌝ }
+        ensures borrows { λ r. ⌜ Lends r ⌝ }
         ensures left { λ _. ⌜ unread (now (self .exit)) ≡ later (unread (now (self .entry))) ⌝ }
     {
         let Some(cut) = next_cut(self.text, self.at) else {

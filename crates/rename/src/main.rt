@@ -10,6 +10,7 @@ use crate::renaming::Unrenamed;
 use crate::renaming::rename;
 use names::Fault;
 use names::Naming;
+use names::RefusalDisplay;
 use std::alloc::Global;
 use std::env;
 use std::error::AnyError;
@@ -83,7 +84,7 @@ fn read_most<R: Read>(heap: Global, from: &mut R) -> io::Result<Vec<u8>> {
 fn refusal(heap: Global, fault: Fault) -> io::Result<String> {
     let number = fault.number();
     let byte = fault.byte;
-    let reason = fault.refusal.reason();
+    let reason = fault.refusal;
     Ok(format!(heap, "refused {number} byte {byte}: {reason}")?)
 }
 
