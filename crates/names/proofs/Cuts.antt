@@ -97,6 +97,13 @@ pieces-token text from to s h =
     ∙ piece-token from (take (to - from) (drop from text)) (drop to text) (omega arith) all (behind text from to s)
     ∙ ap (λ i. piece from (take (to - from) (drop from text)) ∷ pieces i (drop to text)) m
 
+pub token-ends : (text : List ℕ) (from to : ℕ) → Ended text from to → from < to → to ≡ from + length (take (to - from) (drop from text))
+token-ends text from to s h =
+    let last = s .all (to - 1) (omega arith) (omega arith) .0 in
+    let d = length-drop from text in
+    let n : length (take (to - from) (drop from text)) ≡ to - from = length-take-le (to - from) (drop from text) (omega arith) in
+    omega arith
+
 -- neither a gap nor a token begins behind the last
 pub pieces-none : (text : List ℕ) (from to : ℕ) → Skipped text from to → Ended text to to → pieces from (drop from text) ≡ []
 unfolding pieces

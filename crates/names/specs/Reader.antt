@@ -2,7 +2,7 @@
 use mathlib.Core.Bool.{cond}
 use mathlib.Core.Path.{_≡_}
 use mathlib.Core.List.{List, [], _∷_}
-use Prim.Native.Nat.{ℕ}
+use Prim.Native.Nat.{ℕ, _+_}
 use lib.Dec.{ltb}
 use lib.ListN.{length, drop}
 use Rattle.std.specs.declared.option.Option.{Option}
@@ -23,7 +23,8 @@ pieceOf c = record { byte = c .byte; bytes = c .bytes .now }
 -- the first of the tokens from a place on, and where the others begin
 abbrev pub CutsFirst : List ℕ → ℕ → Option Cut → Type 0
 CutsFirst text at None = pieces at (drop at text) ≡ []
-CutsFirst text at (Some c) = pieces at (drop at text) ≡ pieceOf c ∷ pieces (c .end) (drop (c .end) text)
+CutsFirst text at (Some c) =
+    (pieces at (drop at text) ≡ pieceOf c ∷ pieces (c .end) (drop (c .end) text)) × (c .end ≡ c .byte + length (c .bytes .now))
 
 abbrev pub unread : Reader → Telling
 unread r = told (r .naming) (pieces (r .at) (drop (r .at) (r .text .now)))

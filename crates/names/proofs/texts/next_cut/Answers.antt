@@ -4,7 +4,7 @@ use native.Mathlib.Omega.{arith}
 use borrow.Author.Needs.{needs}
 use lib.ListN.{length}
 use Rattle.names.specs.Cutting.{Ended}
-use Rattle.names.proofs.Cuts.{pieces-skip, pieces-token, pieces-none}
+use Rattle.names.proofs.Cuts.{pieces-skip, pieces-token, pieces-none, token-ends}
 use Rattle.names.proofs.texts.next_cut.Needs as need
 
 pub returns-then-end-byte : need.returns-then-end-byte
@@ -14,10 +14,14 @@ returns-then-end-byte c =
 
 pub returns : need.returns
 returns c =
+    let text = c .args .text .now in
+    let from = c .skip-gaps-byte .result in
+    let to = c .token-end-end .result in
     let f = c .token-end-end .ensures .forth in
     let n = c .if-end-byte .left in
-    pieces-skip (c .args .text .now) (c .args .at) (c .skip-gaps-byte .result) (c .skip-gaps-byte .ensures)
-    ∙ pieces-token (c .args .text .now) (c .skip-gaps-byte .result) (c .token-end-end .result) (c .token-end-end .ensures) (omega arith)
+    ( pieces-skip text (c .args .at) from (c .skip-gaps-byte .ensures) ∙ pieces-token text from to (c .token-end-end .ensures) (omega arith)
+    , token-ends text from to (c .token-end-end .ensures) (omega arith)
+    )
 
 pub part-result-end : need.part-result-end
 part-result-end c =

@@ -17,12 +17,12 @@ pub returns-in-Ok : need.returns-in-Ok
 returns-in-Ok c =
     let self = c .args .self .now in
     let cut = c .in-Some .cut in
-    let e = told-token (self .naming) (c .naming-after-self .result) (pieces (self .at) (drop (self .at) (self .text .now))) (pieces (cut .end) (drop (cut .end) (self .text .now))) (pieceOf cut) (said (c .in-Ok .token)) (c .in-Some .ensures tt) (sym (c .in-Ok .ensures tt .value .value)) (c .naming-after-self .ensures) in
+    let e = told-token (self .naming) (c .naming-after-self .result) (pieces (self .at) (drop (self .at) (self .text .now))) (pieces (cut .end) (drop (cut .end) (self .text .now))) (pieceOf cut) (said (c .in-Ok .token)) (c .in-Some .ensures tt .0) (sym (c .in-Ok .ensures tt .value .value)) (c .naming-after-self .ensures) in
     record { value = sym (ap (λ x. firstOf (x .tokens) (x .fault)) e); borrows = c .in-Ok .ensures tt .value .borrows; left = sym (ap later e) }
 
 pub returns-in-Err : need.returns-in-Err
 returns-in-Err c =
     let self = c .args .self .now in
     let cut = c .in-Some .cut in
-    let e = told-fault (self .naming) (pieces (self .at) (drop (self .at) (self .text .now))) (pieces (cut .end) (drop (cut .end) (self .text .now))) (pieceOf cut) (c .in-Err .refusal) (c .in-Some .ensures tt) (sym (c .in-Err .ensures tt .value .value)) in
+    let e = told-fault (self .naming) (pieces (self .at) (drop (self .at) (self .text .now))) (pieces (cut .end) (drop (cut .end) (self .text .now))) (pieceOf cut) (c .in-Err .refusal) (c .in-Some .ensures tt .0) (sym (c .in-Err .ensures tt .value .value)) in
     record { value = sym (ap (λ x. firstOf (x .tokens) (x .fault)) e); borrows = tt; left = e ∙ sym (ap later e) }
