@@ -18,9 +18,9 @@ returns c =
     let from = c .skip-gaps-byte .result in
     let to = c .token-end-end .result in
     let f = c .token-end-end .ensures .forth in
-    let n = c .if-end-byte .left in
-    ( pieces-skip text (c .args .at) from (c .skip-gaps-byte .ensures) ∙ pieces-token text from to (c .token-end-end .ensures) (omega arith)
-    , token-ends text from to (c .token-end-end .ensures) (omega arith)
+    let n = c .if-end-byte .left in (
+      pieces-skip text (c .args .at) from (c .skip-gaps-byte .ensures) ∙ pieces-token text from to (c .token-end-end .ensures) (omega arith),
+      token-ends text from to (c .token-end-end .ensures) (omega arith),
     )
 
 pub part-result-end : need.part-result-end

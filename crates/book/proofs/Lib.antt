@@ -1,0 +1,12 @@
+pub mod Notations
+pub mod Numbered
+pub mod Exactness
+pub mod Entering
+pub mod Counts
+pub mod Rows
+pub mod Listings
+pub mod OneListing
+pub mod Slices
+pub mod Laws
+pub mod Sounds
+pub mod Bytes
