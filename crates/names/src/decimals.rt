@@ -36,7 +36,7 @@ fn ill_led(digits: &[u8]) -> bool
 }
 
 // The number from `least` to `most` whose decimal notation the bytes are.
-pub fn read_number(digits: &[u8], least: u8, most: u8) -> Option<u8>
+pub(crate) fn read_number(digits: &[u8], least: u8, most: u8) -> Option<u8>
     ensures { λ r. ⌜ r ≡ numberRead least most (now (digits .entry)) ⌝ }
 {
     if ill_led(digits) {
@@ -46,7 +46,7 @@ pub fn read_number(digits: &[u8], least: u8, most: u8) -> Option<u8>
     if number < least { None } else { Some(number) }
 }
 
-pub fn decimal_length(number: u32) -> usize
+pub(crate) fn decimal_length(number: u32) -> usize
     ensures value { λ r. ⌜ r ≡ length (decimal number) ⌝ }
     ensures few { λ r. ⌜ r ≤ 10 ⌝ }
 {
@@ -57,7 +57,7 @@ pub fn decimal_length(number: u32) -> usize
     }
 }
 
-pub fn lay_decimal(out: &mut [u8], at: usize, number: u32) -> usize
+pub(crate) fn lay_decimal(out: &mut [u8], at: usize, number: u32) -> usize
     requires { ⌜ at + length (decimal number) ≤ length (now out) ⌝ }
     ensures place { λ r. ⌜ r ≡ at + length (decimal number) ⌝ }
     ensures after { λ _. ⌜ now (out .exit) ≡ laid (now (out .entry)) at (decimal number) ⌝ }

@@ -48,7 +48,7 @@ impl NoteReader {
     }
 }
 
-pub fn scan(bytes: &[u8]) -> NoteReader
+pub(crate) fn scan(bytes: &[u8]) -> NoteReader
     requires { ⌜ length (now bytes) ≤ 64 ⌝ }
     ensures { λ r. ⌜ r ≡ scanned start (now (bytes .entry)) ⌝ }
 {

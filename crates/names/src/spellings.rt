@@ -149,13 +149,13 @@ pub fn read_name(naming: Naming, name: &[u8]) -> Result<Pitch, Refusal>
     }
 }
 
-pub fn name_length(naming: Naming, pitch: Pitch) -> usize
+pub(crate) fn name_length(naming: Naming, pitch: Pitch) -> usize
     ensures { λ r. ⌜ r ≡ length (name naming pitch) ⌝ }
 {
     1 + suffix(naming, pitch).len()
 }
 
-pub fn lay_name(out: &mut [u8], at: usize, naming: Naming, pitch: Pitch) -> usize
+pub(crate) fn lay_name(out: &mut [u8], at: usize, naming: Naming, pitch: Pitch) -> usize
     requires { ⌜ at + length (name naming pitch) ≤ length (now out) ⌝ }
     ensures place { λ r. ⌜ r ≡ at + length (name naming pitch) ⌝ }
     ensures after { λ _. ⌜ now (out .exit) ≡ laid (now (out .entry)) at (name naming pitch) ⌝ }

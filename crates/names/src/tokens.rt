@@ -41,7 +41,7 @@ pub enum Token<'a> {
 }
 
 // Whether the bytes may stand between the quotes of a syllable.
-pub fn is_syllable(bytes: &[u8]) -> bool
+pub(crate) fn is_syllable(bytes: &[u8]) -> bool
     ensures { λ r. ⌜ r ≡ syllabled (now (bytes .entry)) ⌝ }
 {
     if bytes.len() < 1 || bytes.len() > 30 {
@@ -50,7 +50,7 @@ pub fn is_syllable(bytes: &[u8]) -> bool
     all_plain(bytes)
 }
 
-pub fn is_gap(byte: u8) -> bool
+pub(crate) fn is_gap(byte: u8) -> bool
     ensures { λ r. ⌜ r ≡ gap byte ⌝ }
 {
     byte == b' ' || byte == b'\n'
