@@ -1,5 +1,5 @@
 -- The list of refusals: the number and the layer of each. Assumes nothing.
-use Rattle.std.specs.Prelude.{ℕ}
+use Rattle.std.specs.Prelude.{ℕ, Bool, ◌==◌}
 use Rattle.names.specs.declared.refusals.Refusal.{Refusal}
 use Rattle.names.specs.declared.refusals.Refusal.TheVariants.{TextTooLong, TokenTooLong, NotOfForm, NoNaming, OutOfRange, UnknownName, BadOctaveOrLength, RankAboveTops, BookFull, RegisterFull, NoSuchPosition, NoSuchRepeat, TableTooShort, NotAScore, NoSuchVoice, NeverTyped, NameBufferTooShort, BufferTooShort}
 use Rattle.names.specs.declared.refusals.Layer.{Layer}
@@ -43,3 +43,27 @@ layer_number Text = 0
 layer_number Name = 1
 layer_number Book = 2
 layer_number Sheet = 3
+
+-- a refusal's place in the list, from 0, and whether two refusals are the same
+abbrev pub place_of : Refusal → ℕ
+place_of TextTooLong = 0
+place_of TokenTooLong = 1
+place_of NotOfForm = 2
+place_of NoNaming = 3
+place_of OutOfRange = 4
+place_of UnknownName = 5
+place_of BadOctaveOrLength = 6
+place_of RankAboveTops = 7
+place_of BookFull = 8
+place_of RegisterFull = 9
+place_of NoSuchPosition = 10
+place_of NoSuchRepeat = 11
+place_of TableTooShort = 12
+place_of NotAScore = 13
+place_of NoSuchVoice = 14
+place_of NeverTyped = 15
+place_of NameBufferTooShort = 16
+place_of BufferTooShort = 17
+
+abbrev pub same_refusal : Refusal → Refusal → Bool
+same_refusal a b = place_of a == place_of b

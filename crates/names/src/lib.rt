@@ -1,4 +1,6 @@
 // The lowest library: note names, tokens, texts, and everything that the project refuses.
+#![tactic(auto)]
+
 mod buffers;
 mod bytes;
 mod decimals;

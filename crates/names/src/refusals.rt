@@ -1,9 +1,8 @@
 // Everything the project refuses, in one list. A refusal's number and layer are part of the format.
 ghost use Rattle.std.specs.Prelude.{◌≡◌, true};
-ghost use Rattle.names.specs.Refusals.{number, layer, layer_number};
+ghost use Rattle.names.specs.Refusals.{number, layer, layer_number, same_refusal};
 ghost use Rattle.std.specs.Cmp.Rules.{comparing};
 ghost use Rattle.std.proofs.Common.{rules};
-ghost use Rattle.std.specs.Cmp as Keys;
 
 use std::fmt;
 
@@ -47,11 +46,14 @@ pub struct Fault {
 
 // Written out, since a derived `==` tells its callers nothing past sixteen variants.
 impl PartialEq for Refusal {
-    ghost equals = { λ a b r. (r ≡ true → a ≡ b) × (a ≡ b → r ≡ true) };
+    ghost eq = { same_refusal };
 
-    ghost laws = { Keys.partial_equiv_from_equiv (Prim.search (comparing, rules)) };
+    ghost laws = { Prim.search (comparing, rules) };
 
-    fn eq(&self, other: &Refusal) -> bool {
+    fn eq(&self, other: &Refusal) -> bool
+        ensures value { result ≡ same_refusal self.now other.now }
+        ensures same { (result ≡ true → self.now ≡ other.now) × (self.now ≡ other.now → result ≡ true) }
+    {
         (*self as u8) == (*other as u8)
     }
 }

@@ -12,6 +12,6 @@ returns-then-number-lt10 t c = record { value = sym (length_digit c.args.number 
 pub returns-else-number-lt10 : goal.returns-else-number-lt10
 returns-else-number-lt10 t c =
     let h = length_step c.args.number (search rules) (omega arith) in
-    let e = c.decimal-length.ensures.value in
+    let e = c.decimal_length.ensures.value in
     let b = few c.args.number (omega arith) in
     record { value = omega arith; few = omega arith }

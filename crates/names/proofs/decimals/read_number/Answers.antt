@@ -2,13 +2,13 @@ use Rattle.std.proofs.Common.{◌≡◌, ◌<◌, Some, sym, ap, ◌∙◌, arit
 use Rattle.names.proofs.Numbers.{none_ill_led, value_reads, value_none}
 use Rattle.names.proofs.decimals.read_number.Goals as goal
 
-pub returns-then-ill-led : goal.returns-then-ill-led
-returns-then-ill-led c =
-    sym (none_ill_led c.args.least c.args.most (search rules) c.args.digits.now (sym c.ill-led.ensures ∙ c.if-ill-led.true))
+pub returns-then-ill_led : goal.returns-then-ill_led
+returns-then-ill_led c =
+    sym (none_ill_led c.args.least c.args.most (search rules) c.args.digits.now (sym c.ill_led.ensures ∙ c.if-ill_led.true))
 
-pub returns-in-default : goal.returns-in-default
-returns-in-default c =
-    sym (value_none c.args.least c.args.most (search rules) c.args.digits.now (λ a l h. let m = c.in-default.ensures a in omega arith))
+pub returns-in_default : goal.returns-in_default
+returns-in_default c =
+    sym (value_none c.args.least c.args.most (search rules) c.args.digits.now (λ a l h. let m = c.in_default.ensures a in omega arith))
 
 pub returns-then-number-least : goal.returns-then-number-least
 returns-then-number-least c =
@@ -21,4 +21,4 @@ returns-else-number-least c =
     let v = e.1 in
     let l = c.if-number-least.false in
     let h = e.2 in
-    ap Some v ∙ sym (value_reads c.args.least c.args.most (search rules) c.args.digits.now (sym c.ill-led.ensures ∙ c.if-ill-led.false) e.0 (omega arith) (omega arith))
+    ap Some v ∙ sym (value_reads c.args.least c.args.most (search rules) c.args.digits.now (sym c.ill_led.ensures ∙ c.if-ill_led.false) e.0 (omega arith) (omega arith))

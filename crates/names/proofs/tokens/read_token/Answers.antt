@@ -11,13 +11,13 @@ pub returns-in-Some : goal.returns-in-Some
 returns-in-Some c = record { value = record { value = sym (token_naming c.args.naming c.args.bytes.now c.in-Some.set c.if-bytes-gt64.false (sym c.in-Some.ensures)); borrows = tt }; laws = token_laws }
 
 pub returns-in-Syllable : goal.returns-in-Syllable
-returns-in-Syllable c = record { value = hears c.read-syllable.ensures (token_kind c.args.naming c.args.bytes.now Syllable c.if-bytes-gt64.false (sym c.in-default.ensures) (sym c.in-Syllable.ensures)); laws = token_laws }
+returns-in-Syllable c = record { value = hears c.read_syllable.ensures (token_kind c.args.naming c.args.bytes.now Syllable c.if-bytes-gt64.false (sym c.in_default.ensures) (sym c.in-Syllable.ensures)); laws = token_laws }
 
 pub returns-in-Note : goal.returns-in-Note
-returns-in-Note c = record { value = hears c.read-note.ensures (token_kind c.args.naming c.args.bytes.now Note c.if-bytes-gt64.false (sym c.in-default.ensures) (sym c.in-Note.ensures)); laws = token_laws }
+returns-in-Note c = record { value = hears c.read_note.ensures (token_kind c.args.naming c.args.bytes.now Note c.if-bytes-gt64.false (sym c.in_default.ensures) (sym c.in-Note.ensures)); laws = token_laws }
 
 pub returns-in-Rest : goal.returns-in-Rest
-returns-in-Rest c = record { value = hears c.read-rest.ensures (token_kind c.args.naming c.args.bytes.now Rest c.if-bytes-gt64.false (sym c.in-default.ensures) (sym c.in-Rest.ensures)); laws = token_laws }
+returns-in-Rest c = record { value = hears c.read_rest.ensures (token_kind c.args.naming c.args.bytes.now Rest c.if-bytes-gt64.false (sym c.in_default.ensures) (sym c.in-Rest.ensures)); laws = token_laws }
 
 pub returns-in-Frame : goal.returns-in-Frame
-returns-in-Frame c = record { value = hears c.read-frame.ensures (token_kind c.args.naming c.args.bytes.now Frame c.if-bytes-gt64.false (sym c.in-default.ensures) (sym c.in-Frame.ensures)); laws = token_laws }
+returns-in-Frame c = record { value = hears c.read_frame.ensures (token_kind c.args.naming c.args.bytes.now Frame c.if-bytes-gt64.false (sym c.in_default.ensures) (sym c.in-Frame.ensures)); laws = token_laws }

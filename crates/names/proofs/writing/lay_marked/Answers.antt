@@ -8,13 +8,13 @@ use Rattle.names.proofs.writing.lay_marked.Goals as goal
 pub lay-behind-requires : goal.lay-behind-requires
 lay-behind-requires c = let n = length_marked c.args.bytes.now c.args.mark c.args.number in omega arith
 
-pub lay-byte-digits-requires : goal.lay-byte-digits-requires
-lay-byte-digits-requires c =
+pub lay_byte-digits-requires : goal.lay_byte-digits-requires
+lay_byte-digits-requires c =
     let n = length_marked c.args.bytes.now c.args.mark c.args.number in
     search rules
 
-pub lay-decimal-requires : goal.lay-decimal-requires
-lay-decimal-requires c =
+pub lay_decimal-requires : goal.lay_decimal-requires
+lay_decimal-requires c =
     let n = length_marked c.args.bytes.now c.args.mark c.args.number in
     search rules
 
@@ -24,13 +24,13 @@ returns c =
     let bs = c.args.bytes.now in
     let n = length_marked bs c.args.mark c.args.number in
     let l = length_push bs c.args.mark in
-    let two : c.lay-byte-digits.new.out ≡ laid out c.args.at (bs ++ (c.args.mark ∷ [])) =
-    laid_then out c.lay-behind.new.out c.lay-byte-digits.new.out bs (c.args.mark ∷ []) (bs ++ (c.args.mark ∷ [])) c.args.at c.lay-behind.result refl c.lay-behind.ensures.place (omega arith) c.lay-behind.ensures.after c.lay-byte-digits.ensures.after in
+    let two : c.lay_byte-digits.new.out ≡ laid out c.args.at (bs ++ (c.args.mark ∷ [])) =
+    laid_then out c.lay-behind.new.out c.lay_byte-digits.new.out bs (c.args.mark ∷ []) (bs ++ (c.args.mark ∷ [])) c.args.at c.lay-behind.result refl c.lay-behind.ensures.place (omega arith) c.lay-behind.ensures.after c.lay_byte-digits.ensures.after in
     let whole : (bs ++ (c.args.mark ∷ [])) ++ decimal c.args.number ≡ marked bs c.args.mark c.args.number =
     append_assoc bs (c.args.mark ∷ []) (decimal c.args.number) in
     record {
-      place = let p = c.lay-decimal.ensures.place in let q = c.lay-byte-digits.ensures.place in let r = c.lay-behind.ensures.place in omega arith;
+      place = let p = c.lay_decimal.ensures.place in let q = c.lay_byte-digits.ensures.place in let r = c.lay-behind.ensures.place in omega arith;
       after =
-          laid_then out c.lay-byte-digits.new.out c.lay-decimal.new.out (bs ++ (c.args.mark ∷ [])) (decimal c.args.number) (marked bs c.args.mark c.args.number) c.args.at c.lay-byte-digits.result whole
-          (let q = c.lay-byte-digits.ensures.place in let r = c.lay-behind.ensures.place in omega arith) c.requires two c.lay-decimal.ensures.after;
+          laid_then out c.lay_byte-digits.new.out c.lay_decimal.new.out (bs ++ (c.args.mark ∷ [])) (decimal c.args.number) (marked bs c.args.mark c.args.number) c.args.at c.lay_byte-digits.result whole
+          (let q = c.lay_byte-digits.ensures.place in let r = c.lay-behind.ensures.place in omega arith) c.requires two c.lay_decimal.ensures.after;
     }

@@ -18,9 +18,9 @@ lay-octave-requires c =
     let s = ap length c.spelling.ensures in
     omega arith
 
-pub lay-marked-requires : goal.lay-marked-requires
+pub lay_marked-requires : goal.lay_marked-requires
 unfolding spelled
-lay-marked-requires c =
+lay_marked-requires c =
     let x = c.args.note.now in
     let nm = name c.args.naming x.pitch in
     let m = length_marked (nm ++ ((48 + x.octave) ∷ [])) 47 x.length in
@@ -39,9 +39,9 @@ returns c =
     let p = length_push nm (48 + x.octave) in
     let e = c.lay-octave.ensures.place ∙ ap (λ xs. c.args.at + length xs) c.spelling.ensures in
     let l = c.lay-octave.ensures.after ∙ ap (laid c.args.out.now c.args.at) c.spelling.ensures in
-    let f = c.lay-marked.ensures.place in
+    let f = c.lay_marked.ensures.place in
     let whole : nm ++ marked ((48 + x.octave) ∷ []) 47 x.length ≡ spelled c.args.naming (noted x) = sym (append_assoc nm ((48 + x.octave) ∷ []) (47 ∷ decimal x.length)) in
     record {
       place = omega arith;
-      after = laid_then c.args.out.now c.lay-octave.new.out c.lay-marked.new.out nm (marked ((48 + x.octave) ∷ []) 47 x.length) (spelled c.args.naming (noted x)) c.args.at c.lay-octave.result whole e c.requires.room l c.lay-marked.ensures.after;
+      after = laid_then c.args.out.now c.lay-octave.new.out c.lay_marked.new.out nm (marked ((48 + x.octave) ∷ []) 47 x.length) (spelled c.args.naming (noted x)) c.args.at c.lay-octave.result whole e c.requires.room l c.lay_marked.ensures.after;
     }

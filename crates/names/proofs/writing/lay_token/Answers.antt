@@ -10,19 +10,19 @@ unfolding spelled
 lay-requires c =
     room_for c.args.out.now c.args.at (c.word.ensures ∙ ap (λ t. spelled c.args.naming (said t)) (sym c.in-Naming.is)) c.requires.room
 
-pub lay-syllable-requires : goal.lay-syllable-requires
+pub lay_syllable-requires : goal.lay_syllable-requires
 unfolding spelled
-lay-syllable-requires c =
+lay_syllable-requires c =
     room_for c.args.out.now c.args.at {bs = quotes c.in-Syllable.bytes.now} (ap (λ t. spelled c.args.naming (said t)) (sym c.in-Syllable.is)) c.requires.room
 
-pub lay-marked-requires : goal.lay-marked-requires
+pub lay_marked-requires : goal.lay_marked-requires
 unfolding spelled
-lay-marked-requires c =
+lay_marked-requires c =
     room_for c.args.out.now c.args.at {bs = marked (codes "r") 47 c.in-Rest.length} (ap (λ t. spelled c.args.naming (said t)) (sym c.in-Rest.is)) c.requires.room
 
-pub lay-marked-requires-in-Frame : goal.lay-marked-requires-in-Frame
+pub lay_marked-requires-in-Frame : goal.lay_marked-requires-in-Frame
 unfolding spelled
-lay-marked-requires-in-Frame c =
+lay_marked-requires-in-Frame c =
     room_for c.args.out.now c.args.at (ap (λ w. marked w 58 c.in-Frame.rank) c.word-in-Frame.ensures ∙ ap (λ t. spelled c.args.naming (said t)) (sym c.in-Frame.is)) c.requires.room
 
 pub returns-in-Naming : goal.returns-in-Naming
@@ -35,16 +35,16 @@ pub returns-in-Syllable : goal.returns-in-Syllable
 unfolding spelled
 returns-in-Syllable c =
     let e = ap (λ t. spelled c.args.naming (said t)) (sym c.in-Syllable.is) in
-    record { place = c.lay-syllable.ensures.place ∙ ap (λ xs. c.args.at + length xs) e; after = c.lay-syllable.ensures.after ∙ ap (laid c.args.out.now c.args.at) e }
+    record { place = c.lay_syllable.ensures.place ∙ ap (λ xs. c.args.at + length xs) e; after = c.lay_syllable.ensures.after ∙ ap (laid c.args.out.now c.args.at) e }
 
 pub returns-in-Rest : goal.returns-in-Rest
 unfolding spelled
 returns-in-Rest c =
     let e = ap (λ t. spelled c.args.naming (said t)) (sym c.in-Rest.is) in
-    record { place = c.lay-marked.ensures.place ∙ ap (λ xs. c.args.at + length xs) e; after = c.lay-marked.ensures.after ∙ ap (laid c.args.out.now c.args.at) e }
+    record { place = c.lay_marked.ensures.place ∙ ap (λ xs. c.args.at + length xs) e; after = c.lay_marked.ensures.after ∙ ap (laid c.args.out.now c.args.at) e }
 
 pub returns-in-Frame : goal.returns-in-Frame
 unfolding spelled
 returns-in-Frame c =
     let e = ap (λ w. marked w 58 c.in-Frame.rank) c.word-in-Frame.ensures ∙ ap (λ t. spelled c.args.naming (said t)) (sym c.in-Frame.is) in
-    record { place = c.lay-marked-in-Frame.ensures.place ∙ ap (λ xs. c.args.at + length xs) e; after = c.lay-marked-in-Frame.ensures.after ∙ ap (laid c.args.out.now c.args.at) e }
+    record { place = c.lay_marked-in-Frame.ensures.place ∙ ap (λ xs. c.args.at + length xs) e; after = c.lay_marked-in-Frame.ensures.after ∙ ap (laid c.args.out.now c.args.at) e }

@@ -26,55 +26,55 @@ pub returns-in-Naming : goal.returns-in-Naming
 unfolding spelled
 returns-in-Naming c = fit c.args.naming c.args.token.now _ (length c.word.result.now) c.in-Naming.is refl (ap length c.word.ensures)
 
-pub returns-then-is-syllable : goal.returns-then-is-syllable
+pub returns-then-is_syllable : goal.returns-then-is_syllable
 unfolding spelled
-returns-then-is-syllable c =
+returns-then-is_syllable c =
     fit c.args.naming c.args.token.now _ (length c.in-Syllable.bytes.now + 2) c.in-Syllable.is
-    (ap (λ b. unless b NotOfForm) (sym c.is-syllable.ensures ∙ c.if-is-syllable.true))
+    (ap (λ b. unless b NotOfForm) (sym c.is_syllable.ensures ∙ c.if-is_syllable.true))
     (sym (length_quotes c.in-Syllable.bytes.now))
 
-pub returns-else-is-syllable : goal.returns-else-is-syllable
-returns-else-is-syllable c =
+pub returns-else-is_syllable : goal.returns-else-is_syllable
+returns-else-is_syllable c =
     unfit c.args.naming c.args.token.now _ NotOfForm c.in-Syllable.is
-    (ap (λ b. unless b NotOfForm) (sym c.is-syllable.ensures ∙ c.if-is-syllable.false))
+    (ap (λ b. unless b NotOfForm) (sym c.is_syllable.ensures ∙ c.if-is_syllable.false))
 
-pub returns-then-is-sung : goal.returns-then-is-sung
+pub returns-then-is_sung : goal.returns-then-is_sung
 unfolding spelled
-returns-then-is-sung c =
+returns-then-is_sung c =
     let x = c.in-Note.note in
     let nm = name c.args.naming x.pitch in
     let m = length_marked (nm ++ ((48 + x.octave) ∷ [])) 47 x.length in
     let p = length_push nm (48 + x.octave) in
-    let d = c.decimal-length.ensures.value in
+    let d = c.decimal_length.ensures.value in
     let s = ap length c.spelling.ensures in
-    fit c.args.naming c.args.token.now _ (length c.spelling.result.now + 2 + c.decimal-length.result) c.in-Note.is
-    (ap (λ b. unless b BadOctaveOrLength) (sym c.is-sung.ensures ∙ c.if-is-sung.true)) (omega arith)
+    fit c.args.naming c.args.token.now _ (length c.spelling.result.now + 2 + c.decimal_length.result) c.in-Note.is
+    (ap (λ b. unless b BadOctaveOrLength) (sym c.is_sung.ensures ∙ c.if-is_sung.true)) (omega arith)
 
-pub returns-else-is-sung : goal.returns-else-is-sung
-returns-else-is-sung c =
+pub returns-else-is_sung : goal.returns-else-is_sung
+returns-else-is_sung c =
     unfit c.args.naming c.args.token.now _ BadOctaveOrLength c.in-Note.is
-    (ap (λ b. unless b BadOctaveOrLength) (sym c.is-sung.ensures ∙ c.if-is-sung.false))
+    (ap (λ b. unless b BadOctaveOrLength) (sym c.is_sung.ensures ∙ c.if-is_sung.false))
 
-pub returns-then-is-lasting : goal.returns-then-is-lasting
+pub returns-then-is_lasting : goal.returns-then-is_lasting
 unfolding spelled
-returns-then-is-lasting c =
+returns-then-is_lasting c =
     let m = length_marked (codes "r") 47 c.in-Rest.length in
-    let d = c.decimal-length-then-is-lasting.ensures.value in
-    fit c.args.naming c.args.token.now _ (2 + c.decimal-length-then-is-lasting.result) c.in-Rest.is
-    (ap (λ b. unless b BadOctaveOrLength) (sym c.is-lasting.ensures ∙ c.if-is-lasting.true)) (omega arith)
+    let d = c.decimal_length-then-is_lasting.ensures.value in
+    fit c.args.naming c.args.token.now _ (2 + c.decimal_length-then-is_lasting.result) c.in-Rest.is
+    (ap (λ b. unless b BadOctaveOrLength) (sym c.is_lasting.ensures ∙ c.if-is_lasting.true)) (omega arith)
 
-pub returns-else-is-lasting : goal.returns-else-is-lasting
-returns-else-is-lasting c =
+pub returns-else-is_lasting : goal.returns-else-is_lasting
+returns-else-is_lasting c =
     unfit c.args.naming c.args.token.now _ BadOctaveOrLength c.in-Rest.is
-    (ap (λ b. unless b BadOctaveOrLength) (sym c.is-lasting.ensures ∙ c.if-is-lasting.false))
+    (ap (λ b. unless b BadOctaveOrLength) (sym c.is_lasting.ensures ∙ c.if-is_lasting.false))
 
 pub returns-in-Frame : goal.returns-in-Frame
 unfolding spelled
 returns-in-Frame c =
     let rank = c.in-Frame.rank in
     let m = length_marked (keyword_word c.in-Frame.keyword) 58 rank in
-    let d = c.decimal-length-in-Frame.ensures.value in
+    let d = c.decimal_length-in-Frame.ensures.value in
     let w = ap length c.word-in-Frame.ensures in
     let fits : leb rank 255 ≡ true = le-leb rank 255 (omega arith) in
-    fit c.args.naming c.args.token.now _ (length c.word-in-Frame.result.now + 1 + c.decimal-length-in-Frame.result) c.in-Frame.is
+    fit c.args.naming c.args.token.now _ (length c.word-in-Frame.result.now + 1 + c.decimal_length-in-Frame.result) c.in-Frame.is
     (ap (λ b. unless b NotOfForm) fits) (omega arith)

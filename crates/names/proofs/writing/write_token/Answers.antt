@@ -38,31 +38,31 @@ returns-in-Err c =
     let r = refused (malformed told) c.in-Err.refusal c.args.out.now (spelled c.args.naming told) c.args.at c.in-Err.ensures in
     record { place = r.0; after = r.1 }
 
-pub lay-token-requires : goal.lay-token-requires
-lay-token-requires c =
+pub lay_token-requires : goal.lay_token-requires
+lay_token-requires c =
     let told = said c.args.token.now in
     let bs = spelled c.args.naming told in
     let m = malformed told in
-    let h = room m c.in-Ok.length c.args.at c.args.out.now bs c.has-room.result c.in-Ok.ensures c.has-room.ensures in
+    let h = room m c.in-Ok.length c.args.at c.args.out.now bs c.has_room.result c.in-Ok.ensures c.has_room.ensures in
     record {
-      room = leb-true (c.args.at + length bs) (length c.args.out.now) (h ∙ c.if-has-room.true);
+      room = leb-true (c.args.at + length bs) (length c.args.out.now) (h ∙ c.if-has_room.true);
       formed = (typed m c.in-Ok.length bs c.in-Ok.ensures).0;
     }
 
-pub returns-then-has-room : goal.returns-then-has-room
-returns-then-has-room c =
+pub returns-then-has_room : goal.returns-then-has_room
+returns-then-has_room c =
     let told = said c.args.token.now in
     let bs = spelled c.args.naming told in
     let m = malformed told in
-    let h = room m c.in-Ok.length c.args.at c.args.out.now bs c.has-room.result c.in-Ok.ensures c.has-room.ensures in
-    let f = fits m c.args.at c.args.out.now bs (typed m c.in-Ok.length bs c.in-Ok.ensures).0 (h ∙ c.if-has-room.true) in
-    record { place = ap Ok c.lay-token.ensures.place ∙ f.0; after = c.lay-token.ensures.after ∙ f.1 }
+    let h = room m c.in-Ok.length c.args.at c.args.out.now bs c.has_room.result c.in-Ok.ensures c.has_room.ensures in
+    let f = fits m c.args.at c.args.out.now bs (typed m c.in-Ok.length bs c.in-Ok.ensures).0 (h ∙ c.if-has_room.true) in
+    record { place = ap Ok c.lay_token.ensures.place ∙ f.0; after = c.lay_token.ensures.after ∙ f.1 }
 
-pub returns-else-has-room : goal.returns-else-has-room
-returns-else-has-room c =
+pub returns-else-has_room : goal.returns-else-has_room
+returns-else-has_room c =
     let told = said c.args.token.now in
     let bs = spelled c.args.naming told in
     let m = malformed told in
-    let h = room m c.in-Ok.length c.args.at c.args.out.now bs c.has-room.result c.in-Ok.ensures c.has-room.ensures in
-    let f = full m c.args.at c.args.out.now bs (typed m c.in-Ok.length bs c.in-Ok.ensures).0 (h ∙ c.if-has-room.false) in
+    let h = room m c.in-Ok.length c.args.at c.args.out.now bs c.has_room.result c.in-Ok.ensures c.has_room.ensures in
+    let f = full m c.args.at c.args.out.now bs (typed m c.in-Ok.length bs c.in-Ok.ensures).0 (h ∙ c.if-has_room.false) in
     record { place = f.0; after = f.1 }
