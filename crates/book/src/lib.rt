@@ -1,5 +1,7 @@
 // A book of words over a register: takes words and texts, answers questions, lists what repeats.
 // Words, passages, group numbers, repeats and the law of arrangements are defined in specs/.
+#![tactic(auto)]
+
 mod arrangement;
 mod books;
 mod calls;

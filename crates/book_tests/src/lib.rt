@@ -1,4 +1,6 @@
 // Examples and limits of the library `book`, each over both registers.
+#![tactic(auto)]
+
 #[cfg(test)]
 mod asking;
 #[cfg(test)]

@@ -1,4 +1,6 @@
 // An editor's desk: performs typed calls on one book, and prints what each is answered.
+#![tactic(auto)]
+
 mod answers;
 mod calls;
 mod options;

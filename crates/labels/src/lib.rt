@@ -1,4 +1,6 @@
 // Labels: what words are spelled with. A label's meaning is its spelling, a list of numbers.
+#![tactic(auto)]
+
 mod bare;
 mod frames;
 mod labels;

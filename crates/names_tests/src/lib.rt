@@ -1,4 +1,6 @@
 // Examples and limits of the library `names`.
+#![tactic(auto)]
+
 use names::{Fault, Reader};
 
 // How reading a text ends: the refusal's number, or 0, and its byte, or the number of tokens.

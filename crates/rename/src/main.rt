@@ -1,4 +1,6 @@
 // Rewrites a typed text in the note names of one naming.
+#![tactic(auto)]
+
 mod options;
 
 use crate::options::{HELP, Options, parse};

@@ -1,4 +1,6 @@
 // A text rewritten in the names of one naming.
+#![tactic(auto)]
+
 ghost use Rattle.std.specs.Prelude.{◌≡◌, ℕ, ◌<◌, ◌++◌, IfOk, None};
 ghost use Rattle.names.specs.Heard.{said};
 ghost use Rattle.names.specs.Reader.{told_of_placed};

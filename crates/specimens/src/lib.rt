@@ -1,4 +1,6 @@
 // Worked examples of what the book is defined to answer, proved as one table.
+#![tactic(auto)]
+
 ghost use Rattle.std.specs.Prelude.{◌≡◌};
 ghost use Rattle.specimens.specs.Specimens.{Specimens};
 

@@ -10,28 +10,28 @@ use Rattle.book.proofs.arrangement.perform_all.Goals as goal
 pub loop-call-init : goal.loop-call-init
 loop-call-init g c =
     let v = c.in-Ok.ensures in
-    let items = ap length c.into-iter-call-iterator.ensures.into-iter-gives.0 in
+    let items = ap length c.into_iter-call-iterator.ensures.into_iter-gives.0 in
     (tt, tt, going_from _ _ _ _ c.in-Ok-new.ensures.value c.in-Ok-new.ensures.holds (ap (map said) v.items), omega (arith, items, v.len, v.capacity, c.len.ensures, c.args.calls.ok.0))
 
 pub loop-call-preserved : goal.loop-call-preserved
 loop-call-preserved g c =
     let i = c.loop-call.invariant in
     let items = c.in-Some.ensures.steps.0 in
-    let push = c.push-reserved.ensures in (
+    let push = c.push_reserved.ensures in (
       tt,
       tt,
       going_more _ _ _ _ _ _ _ _ (asked g.N.Takable.says c.in-Some.call) (said c.perform-next.result.1) i.2 (ap (map (asked g.N.Takable.says)) items) (ap (map said) push.items ∙ map_push said (vec_items c.loop-call.answers) c.perform-next.result.1) c.perform-next.ensures,
       omega (arith, ap length items, push.len, push.capacity, i.3),
     )
 
-pub push-reserved-requires : goal.push-reserved-requires
-push-reserved-requires g c = omega (arith, ap length c.in-Some.ensures.steps.0, c.loop-call.invariant.3)
+pub push_reserved-requires : goal.push_reserved-requires
+push_reserved-requires g c = omega (arith, ap length c.in-Some.ensures.steps.0, c.loop-call.invariant.3)
 
 pub returns : goal.returns
 returns g c =
     let i = c.loop-call.invariant in
     let new = c.in-Ok-new.ensures.value in
     let over = nil_from_length (into_iter_items c.loop-call.call-iterator) (omega (arith, c.in-None.ensures.steps.0, c.loop-call.call-iterator.rest.ok)) in
-    let calls = c.into-iter-call-iterator.ensures.into-iter-gives.0 in
-    let end = going_end _ _ _ _ _ _ _ _ (ap (λ (s : State). standing s true) new) i.2 (ap (map (asked g.N.Takable.says)) over) c.into-register.ensures.pairs in
-    (rw (ap (map (asked g.N.Takable.says)) calls) at end.0, c.into-register.ensures.room ∙ end.1)
+    let calls = c.into_iter-call-iterator.ensures.into_iter-gives.0 in
+    let end = going_end _ _ _ _ _ _ _ _ (ap (λ (s : State). standing s true) new) i.2 (ap (map (asked g.N.Takable.says)) over) c.into_register.ensures.pairs in
+    (rw (ap (map (asked g.N.Takable.says)) calls) at end.0, c.into_register.ensures.room ∙ end.1)

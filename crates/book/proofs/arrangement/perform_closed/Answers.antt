@@ -35,8 +35,8 @@ returns-in-List g c =
     let k = c.in-List.k in
     let table = vec_items c.in-List.table in
     let l = c.list-listed.ensures in
-    let lent = c.as-mut-slice.ensures.value in
-    let back = with_items_is c.in-List.table c.list-listed.new.table (omega (arith, c.list-listed.auto.table, c.as-mut-slice.ensures.len)) in
+    let lent = c.as_mut_slice.ensures.value in
+    let back = with_items_is c.in-List.table c.list-listed.new.table (omega (arith, c.list-listed.auto.table, c.as_mut_slice.ensures.len)) in
     performs_as (ap (asked g.N.Takable.says) c.in-List.is) (performs_kept _ _ false false (list k table) _ refl refl refl
     (λ qs ws h. listing_same
     (l.lists.law qs ws h ∙ ap (λ t. word_listed k (length t) qs ws) lent)

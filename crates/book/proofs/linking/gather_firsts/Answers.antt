@@ -1,7 +1,7 @@
 use Rattle.std.proofs.Common.{vec_items, vec_capacity, refl, ap, ◌∙◌}
 use Rattle.book.proofs.LinkingFirsts.{gathered_none, gathered_more, gathered_pass, gathered_all}
 use Rattle.book.proofs.linking.gather_firsts.Goals as goal
-use Rattle.book.proofs.linking.gather_firsts.Goals.{then-opens-repeat, else-opens-repeat}
+use Rattle.book.proofs.linking.gather_firsts.Goals.{then-opens_repeat, else-opens_repeat}
 
 pub loop-p-init : goal.loop-p-init
 loop-p-init c = (rw c.clear.ensures.items (gathered_none c.args.entries.now), refl)
@@ -14,13 +14,13 @@ loop-p-preserved c =
     let read = c.requires.opened.each p l in
     let link = c.requires.linked.each p l in
     let fs = vec_items c.loop-p.firsts in
-    elim c.if-opens-repeat.branch [
-      | then-opens-repeat w ↦ (
-        rw (ap vec_items w.firsts-is ∙ w.push-reserved.ensures.items) (gathered_more es p fs _ _ l read link c.loop-p.invariant.0 w.if-opens-repeat.ensures),
-        ap vec_capacity w.firsts-is ∙ (w.push-reserved.ensures.capacity ∙ c.loop-p.invariant.1),
+    elim c.if-opens_repeat.branch [
+      | then-opens_repeat w ↦ (
+        rw (ap vec_items w.firsts-is ∙ w.push_reserved.ensures.items) (gathered_more es p fs _ _ l read link c.loop-p.invariant.0 w.if-opens_repeat.ensures),
+        ap vec_capacity w.firsts-is ∙ (w.push_reserved.ensures.capacity ∙ c.loop-p.invariant.1),
       )
-      | else-opens-repeat w ↦ (
-        rw (ap vec_items w.firsts-is) (gathered_pass es p fs _ _ l read link c.loop-p.invariant.0 w.if-opens-repeat.ensures),
+      | else-opens_repeat w ↦ (
+        rw (ap vec_items w.firsts-is) (gathered_pass es p fs _ _ l read link c.loop-p.invariant.0 w.if-opens_repeat.ensures),
         ap vec_capacity w.firsts-is ∙ c.loop-p.invariant.1,
       )
     ]

@@ -12,11 +12,11 @@ loop-p-preserved c =
     let b : Back c.args.entries.now (p + 1) c.loop-p.latest (vec_items c.loop-p.later) = rw e c.loop-p.invariant.0 in
     let l : p < length c.args.entries.now = omega arith in (
       back_more c.args.entries.now p c.loop-p.latest (vec_items c.loop-p.later) b _ _ l (omega (arith, c.requires.numbered.each p l))
-          c.link-word.ensures.latest c.link-word.ensures.later,
-      c.link-word.ensures.room ∙ c.loop-p.invariant.1,
+          c.link_word.ensures.latest c.link_word.ensures.later,
+      c.link_word.ensures.room ∙ c.loop-p.invariant.1,
     )
 
 pub returns : goal.returns
 returns c =
     let all = back_all c.args.entries.now c.loop-p.p c.loop-p.latest (vec_items c.loop-p.later) c.loop-p-test.false c.loop-p.invariant.0 in
-    record { linked = all.0; opened = all.1; room = c.loop-p.invariant.1 ∙ c.make-places.ensures.room }
+    record { linked = all.0; opened = all.1; room = c.loop-p.invariant.1 ∙ c.make_places.ensures.room }

@@ -10,7 +10,7 @@ all_same : (s t : List ℕ) (i : ℕ) → length s ≤ i → length t ≤ i → 
 all_same s t i a b same = sym (take_all i s a) ∙ (same ∙ take_all i t b)
 
 pub loop-place-preserved : goal.loop-place-preserved
-loop-place-preserved g c = one_more _ _ c.loop-place.place (omega arith) (omega arith) c.loop-place.invariant c.if-not-same-at.ensures
+loop-place-preserved g c = one_more _ _ c.loop-place.place (omega arith) (omega arith) c.loop-place.invariant c.if-not-same_at.ensures
 
 pub returns : goal.returns
 returns g c = (λ _. all_same _ _ c.loop-place.place (omega arith) (omega arith) c.loop-place.invariant, λ _. refl)

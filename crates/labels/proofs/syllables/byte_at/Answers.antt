@@ -12,4 +12,4 @@ pub returns : goal.returns
 returns c =
     let bs = c.args.bytes.now in
     let below : c.args.place - 1 < length bs = omega arith in
-    sym (spelling_at bs c.args.place c.requires c.if-end-gt30.false below (c.type-inv.bytes (c.args.place - 1)).fits)
+    sym (spelling_at bs c.args.place c.requires c.if-end-gt30.false below (c.type_inv.bytes (c.args.place - 1)).fits)

@@ -8,5 +8,5 @@ use Rattle.book.proofs.books.ClosedBook.group.Goals as goal
 pub returns : goal.returns
 returns g c =
     let p = c.args.position in
-    let e = c.group-at.ensures ∙ ap (λ es. at_position (length es) p (get_or es p (entry 0 0)).group) c.as-slice.ensures.value in
+    let e = c.group_at.ensures ∙ ap (λ es. at_position (length es) p (get_or es p (entry 0 0)).group) c.as_slice.ensures.value in
     record { value = e; tells = tells_group (closed_state g.R.Register.pairs g.R.Register.room c.args.self.now) p _ e }

@@ -9,6 +9,6 @@ returns g c =
     let s = closed_state g.R.Register.pairs g.R.Register.room c.args.self.now in
     let k = c.args.k in
     let t = c.args.table.now in
-    let a = c.list-repeat.ensures.answer ∙ ap (λ es. listed_answer es k (length t)) c.as-slice.ensures.value in
-    let b = c.list-repeat.ensures.table ∙ ap (λ es. listed_table es k t) c.as-slice.ensures.value in
+    let a = c.list_repeat.ensures.answer ∙ ap (λ es. listed_answer es k (length t)) c.as_slice.ensures.value in
+    let b = c.list_repeat.ensures.table ∙ ap (λ es. listed_table es k t) c.as_slice.ensures.value in
     record { answer = a; table = b; lists = tells_listed s k (length t) _ a; fills = tells_table s k t _ b }

@@ -9,11 +9,11 @@ use Rattle.book.proofs.books.ClosedBook.repeats.Goals as goal
 pub count-requires : goal.count-requires
 count-requires g c =
     let b = c.args.self.now in
-    let n = ap length (c.as-slice.ensures.value ∙ b.listed) ∙ length-map (repeats_of (vec_items b.entries)) first in
+    let n = ap length (c.as_slice.ensures.value ∙ b.listed) ∙ length-map (repeats_of (vec_items b.entries)) first in
     omega (arith, n, b.entries.ok.0, b.few, repeats_few (vec_items b.entries))
 
 pub returns : goal.returns
 returns g c =
     let b = c.args.self.now in
-    let e = c.count.ensures ∙ (ap length (c.as-slice.ensures.value ∙ b.listed) ∙ length-map (repeats_of (vec_items b.entries)) first) in
+    let e = c.count.ensures ∙ (ap length (c.as_slice.ensures.value ∙ b.listed) ∙ length-map (repeats_of (vec_items b.entries)) first) in
     record { value = e; tells = tells_repeats (closed_state g.R.Register.pairs g.R.Register.room b) _ e }

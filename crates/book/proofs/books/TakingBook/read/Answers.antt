@@ -12,47 +12,47 @@ use Rattle.book.proofs.books.TakingBook.read.Goals as goal
 pub loop-placed-init : goal.loop-placed-init
 loop-placed-init g c = going_start _ _ _
 
-pub take-token-requires : goal.take-token-requires
-take-token-requires g c =
+pub take_token-requires : goal.take_token-requires
+take_token-requires g c =
     let r = c.loop-placed.reader in
-    let e = first_some (unread r).tokens (unread r).fault (told_of_placed c.in-Some.placed) (ap (λ o. told_next (Ok o)) (sym c.in-Some.is) ∙ c.in-ok-placed.ensures.value) in
+    let e = first_some (unread r).tokens (unread r).fault (told_of_placed c.in-Some.placed) (ap (λ o. told_next (Ok o)) (sym c.in-Some.is) ∙ c.in_ok-placed.ensures.value) in
     (rw e at (told_formed (pieces r.at (drop r.at r.text.now)) r.naming)).0
 
 pub loop-placed-preserved : goal.loop-placed-preserved
 loop-placed-preserved g c =
     let x = unread c.loop-placed.reader in
     let t = told_of_placed c.in-Some.placed in
-    let e = first_some x.tokens x.fault t (ap (λ o. told_next (Ok o)) (sym c.in-Some.is) ∙ c.in-ok-placed.ensures.value) in
+    let e = first_some x.tokens x.fault t (ap (λ o. told_next (Ok o)) (sym c.in-Some.is) ∙ c.in_ok-placed.ensures.value) in
     let took = c.in-Ok.ensures in
-    going_more _ _ _ _ x t c.loop-placed.invariant e _ _ c.in-Ok.field-0 took.answer took.after c.next-token.ensures.left
+    going_more _ _ _ _ x t c.loop-placed.invariant e _ _ c.in-Ok.field-0 took.answer took.after c.next_token.ensures.left
 
 pub loop-placed-smaller : goal.loop-placed-smaller
 loop-placed-smaller g c =
     let x = unread c.loop-placed.reader in
-    let e = first_some x.tokens x.fault (told_of_placed c.in-Some.placed) (ap (λ o. told_next (Ok o)) (sym c.in-Some.is) ∙ c.in-ok-placed.ensures.value) in
-    omega (arith, ap length e, ap (λ (y : Telling). length y.tokens) c.next-token.ensures.left)
+    let e = first_some x.tokens x.fault (told_of_placed c.in-Some.placed) (ap (λ o. told_next (Ok o)) (sym c.in-Some.is) ∙ c.in_ok-placed.ensures.value) in
+    omega (arith, ap length e, ap (λ (y : Telling). length y.tokens) c.next_token.ensures.left)
 
-pub returns-in-err-placed : goal.returns-in-err-placed
-returns-in-err-placed g c =
+pub returns-in_err-placed : goal.returns-in_err-placed
+returns-in_err-placed g c =
     let s = taking_state g.R.Register.pairs g.R.Register.room c.args.self.now in
     let u = taking_state g.R.Register.pairs g.R.Register.room c.loop-placed.self in
     let x = unread c.loop-placed.reader in
-    let p = err_from_is_err_and c.from-residual-in-err-placed.result c.from-residual-in-err-placed.ensures.1 in
-    let whole = opened_fine c.args.text.now (unread c.in-ok-reader.reader) c.in-ok-reader.ensures.value in
-    let z = first_fails x.tokens x.fault c.in-err-placed.field-0.0 c.in-err-placed.ensures.value in
-    let end = going_end _ _ _ _ x c.loop-placed.invariant z.0 (Some c.in-err-placed.field-0.0) z.1 in
-    let a = p.1 ∙ (ap (λ (f : Fault). Err f) p.2 ∙ read_ended s u c.args.reading c.args.text.now _ whole end.1 (Some c.in-err-placed.field-0.0) end.0) in
+    let p = err_from_is_err_and c.from_residual-in_err-placed.result c.from_residual-in_err-placed.ensures.1 in
+    let whole = opened_fine c.args.text.now (unread c.in_ok-reader.reader) c.in_ok-reader.ensures.value in
+    let z = first_fails x.tokens x.fault c.in_err-placed.field-0.0 c.in_err-placed.ensures.value in
+    let end = going_end _ _ _ _ x c.loop-placed.invariant z.0 (Some c.in_err-placed.field-0.0) z.1 in
+    let a = p.1 ∙ (ap (λ (f : Fault). Err f) p.2 ∙ read_ended s u c.args.reading c.args.text.now _ whole end.1 (Some c.in_err-placed.field-0.0) end.0) in
     let b = read_after s u c.args.reading c.args.text.now _ whole end.1 in
     record { answer = a; after = b; reads = reads s u c.args.reading c.args.text.now _ a b }
 
 pub returns-in-Err : goal.returns-in-Err
 returns-in-Err g c =
     let s = taking_state g.R.Register.pairs g.R.Register.room c.args.self.now in
-    let u = taking_state g.R.Register.pairs g.R.Register.room c.take-token.new.self in
+    let u = taking_state g.R.Register.pairs g.R.Register.room c.take_token.new.self in
     let x = unread c.loop-placed.reader in
     let t = told_of_placed c.in-Some.placed in
-    let e = first_some x.tokens x.fault t (ap (λ o. told_next (Ok o)) (sym c.in-Some.is) ∙ c.in-ok-placed.ensures.value) in
-    let whole = opened_fine c.args.text.now (unread c.in-ok-reader.reader) c.in-ok-reader.ensures.value in
+    let e = first_some x.tokens x.fault t (ap (λ o. told_next (Ok o)) (sym c.in-Some.is) ∙ c.in_ok-placed.ensures.value) in
+    let whole = opened_fine c.args.text.now (unread c.in_ok-reader.reader) c.in_ok-reader.ensures.value in
     let took = c.in-Err.ensures in
     let end = going_refused _ _ _ _ x t c.loop-placed.invariant e u c.in-Err.refusal took.answer took.after in
     let f = fault_at c.in-Some.placed.byte c.in-Err.refusal in
@@ -60,13 +60,13 @@ returns-in-Err g c =
     let b = read_after s u c.args.reading c.args.text.now _ whole end.1 in
     record { answer = a; after = b; reads = reads s u c.args.reading c.args.text.now (Err f) a b }
 
-pub overflow-sub-result : goal.overflow-sub-result
-overflow-sub-result g c =
+pub overflow_sub-result : goal.overflow_sub-result
+overflow_sub-result g c =
     let s = taking_state g.R.Register.pairs g.R.Register.room c.args.self.now in
     let u = taking_state g.R.Register.pairs g.R.Register.room c.loop-placed.self in
     let x = unread c.loop-placed.reader in
-    let whole = opened_fine c.args.text.now (unread c.in-ok-reader.reader) c.in-ok-reader.ensures.value in
-    let z = first_none x.tokens x.fault (ap (λ o. told_next (Ok o)) (sym c.in-default.is) ∙ c.in-ok-placed.ensures.value) in
+    let whole = opened_fine c.args.text.now (unread c.in_ok-reader.reader) c.in_ok-reader.ensures.value in
+    let z = first_none x.tokens x.fault (ap (λ o. told_next (Ok o)) (sym c.in_default.is) ∙ c.in_ok-placed.ensures.value) in
     let end = going_end _ _ _ _ x c.loop-placed.invariant z.0 None z.1 in
     let n = read_counted s u c.args.reading c.args.text.now _ whole end.1 end.0 in
     omega (arith, n, c.args.self.now.entries.ok.0, c.loop-placed.self.entries.ok.0)
@@ -76,8 +76,8 @@ returns g c =
     let s = taking_state g.R.Register.pairs g.R.Register.room c.args.self.now in
     let u = taking_state g.R.Register.pairs g.R.Register.room c.loop-placed.self in
     let x = unread c.loop-placed.reader in
-    let whole = opened_fine c.args.text.now (unread c.in-ok-reader.reader) c.in-ok-reader.ensures.value in
-    let z = first_none x.tokens x.fault (ap (λ o. told_next (Ok o)) (sym c.in-default.is) ∙ c.in-ok-placed.ensures.value) in
+    let whole = opened_fine c.args.text.now (unread c.in_ok-reader.reader) c.in_ok-reader.ensures.value in
+    let z = first_none x.tokens x.fault (ap (λ o. told_next (Ok o)) (sym c.in_default.is) ∙ c.in_ok-placed.ensures.value) in
     let end = going_end _ _ _ _ x c.loop-placed.invariant z.0 None z.1 in
     let n = read_counted s u c.args.reading c.args.text.now _ whole end.1 end.0 in
     let took : c.len.result - c.len-before.result ≡ length (text_words c.args.reading c.args.text.now) = omega (arith, n, c.args.self.now.entries.ok.0, c.loop-placed.self.entries.ok.0) in

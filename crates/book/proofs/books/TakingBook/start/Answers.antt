@@ -8,5 +8,5 @@ use Rattle.book.proofs.books.TakingBook.start.Goals as goal
 pub returns : goal.returns
 returns g c =
     let p = c.args.position in
-    let e = c.start-at.ensures ∙ ap (λ es. at_position (length es) p (get_or es p (entry 0 0)).start) c.as-slice.ensures.value in
+    let e = c.start_at.ensures ∙ ap (λ es. at_position (length es) p (get_or es p (entry 0 0)).start) c.as_slice.ensures.value in
     record { value = e; tells = tells_start (taking_state g.R.Register.pairs g.R.Register.room c.args.self.now) p _ e }

@@ -14,7 +14,7 @@ returns-in-Some g c =
 pub grow-entry-requires : goal.grow-entry-requires
 grow-entry-requires g c =
     let s = c.args.self.now in
-    let fine = not_refused _ _ _ _ (sym c.in-default.ensures) in
+    let fine = not_refused _ _ _ _ (sym c.in_default.ensures) in
     record {
       ranked = omega (arith, s.tops.ok.0, fine.0);
       few = omega (arith, s.entries.ok.0, fine.1);
@@ -26,5 +26,5 @@ returns g c =
     let s = taking_state g.R.Register.pairs g.R.Register.room c.args.self.now in
     let t = taking_state g.R.Register.pairs g.R.Register.room c.grow-entry.new.self in
     let w = word c.args.rank (g.L.Label.spelling c.args.label.now) in
-    let is = take_fine s t w c.grow-entry.result c.in-default.ensures c.grow-entry.ensures.answer c.grow-entry.ensures.after in
+    let is = take_fine s t w c.grow-entry.result c.in_default.ensures c.grow-entry.ensures.answer c.grow-entry.ensures.after in
     record { answer = is.0; after = is.1; takes = takes s t w (Ok (c.grow-entry.result.group, c.grow-entry.result.start)) is.0 is.1 }

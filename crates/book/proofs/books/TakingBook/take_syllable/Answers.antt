@@ -8,5 +8,5 @@ use Rattle.book.proofs.books.TakingBook.take_syllable.Goals as goal
 pub returns : goal.returns
 returns g c =
     let same = made_is _ _ _ c.in-Some.ensures in
-    let is = took_as (taking_state g.R.Register.pairs g.R.Register.room c.args.self.now) c.take-as.ensures.answer c.take-as.ensures.after (ap (λ s. word 0 (spelled_in c.args.reading s)) same) in
+    let is = took_as (taking_state g.R.Register.pairs g.R.Register.room c.args.self.now) c.take_as.ensures.answer c.take_as.ensures.after (ap (λ s. word 0 (spelled_in c.args.reading s)) same) in
     record { answer = is.0; after = is.1 }

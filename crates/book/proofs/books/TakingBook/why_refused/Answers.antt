@@ -9,12 +9,12 @@ returns-then-rank-len g c = let s = c.args.self.now in sym (refused_rank _ _ _ _
 pub returns-then-len-ge-MOST-WORDS : goal.returns-then-len-ge-MOST-WORDS
 returns-then-len-ge-MOST-WORDS g c = let s = c.args.self.now in sym (refused_words _ _ _ _ (omega (arith, s.tops.ok.0)) (omega (arith, s.entries.ok.0)))
 
-pub returns-then-not-has-places : goal.returns-then-not-has-places
-returns-then-not-has-places g c =
+pub returns-then-not-has_places : goal.returns-then-not-has_places
+returns-then-not-has_places g c =
     let s = c.args.self.now in
-    sym (refused_room _ _ _ _ (omega (arith, s.tops.ok.0)) (omega (arith, s.entries.ok.0)) (leb-false _ _ (sym c.if-not-has-places.ensures)))
+    sym (refused_room _ _ _ _ (omega (arith, s.tops.ok.0)) (omega (arith, s.entries.ok.0)) (leb-false _ _ (sym c.if-not-has_places.ensures)))
 
 pub returns : goal.returns
 returns g c =
     let s = c.args.self.now in
-    sym (refused_not _ _ _ _ (omega (arith, s.tops.ok.0)) (omega (arith, s.entries.ok.0)) (leb-true _ _ (sym c.if-not-has-places.ensures)))
+    sym (refused_not _ _ _ _ (omega (arith, s.tops.ok.0)) (omega (arith, s.entries.ok.0)) (leb-true _ _ (sym c.if-not-has_places.ensures)))
