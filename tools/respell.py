@@ -45,9 +45,21 @@ def split_comment(line, mark):
     return line, ""
 
 
+def of_the_kit():
+    """Names that some file takes from the kit's library: they are spelled as there."""
+    taken = set()
+    for path in sources("crates/*/**/*.antt") + sources("crates/*/src/**/*.rt"):
+        for line in open(path, encoding="utf-8"):
+            m = re.match(r"(?:ghost )?use (?:Rattle\.(?:std|core)|borrow|native|denote)\b[^{]*\{(.*)\}", line)
+            if m:
+                taken |= set(re.findall(NAME, m[1]))
+    return taken
+
+
 def declared():
     """Each declared name: whether it is a type or a fact, and whether it is a field of a record."""
     found = {}
+    kit = of_the_kit()
     for path in sources("crates/*/specs/**/*.antt") + sources("crates/*/proofs/**/*.antt"):
         record_at = None
         for line in open(path, encoding="utf-8"):
@@ -59,7 +71,7 @@ def declared():
             if not m:
                 continue
             kinds, name, rest = m[2], m[3], m[5]
-            if rest.startswith("goal.") or name in ("pub", "abbrev", "unfoldable", "record", "data"):
+            if rest.startswith("goal.") or name in ("pub", "abbrev", "unfoldable", "record", "data") or name in kit:
                 continue
             is_type = "record" in kinds or "data" in kinds or re.search(r"(^|→ )Type 0\s*(where)?$", rest) is not None
             is_field = record_at is not None

@@ -1,7 +1,7 @@
 -- What is listed of the repeat of a number, by the first ends that were gathered. Assumes nothing.
 use Rattle.std.proofs.Common.{◌≡◌, ℕ, zero, suc, ◌+◌, ◌<◌, ◌≤◌, Bool, true, false, cond, ltb, leb, List, [], ◌∷◌, ◌++◌, map, length, get_or, drop, Ok, Err, Result, sym, refl, ap, ◌∙◌, ⊎_elim, arith}
 use Rattle.std.specs.List.{AllByRecursion as All, range_with_len}
-use Rattle.std.proofs.lemmas.List.{length-map, get_or_map}
+use Rattle.std.proofs.lemmas.List.{length-map, get_or-map}
 use Rattle.std.proofs.ByRecursion.{All-get_or}
 use Rattle.std.proofs.lemmas.Bool.{cond-true, cond-false, lt-ltb, le-ltb, le-leb, ltb-true, ltb-false, leb-true, and_from, and_left, and_right}
 use Rattle.names.specs.declared.refusals.Refusal.{Refusal}
@@ -79,7 +79,7 @@ module _ (es : List Entry) (firsts : List ℕ) (is : firsts ≡ map first (repea
 
   module _ (l : k < length firsts) where
     first_at : get_or firsts k 0 ≡ first (ends_of es k)
-    first_at = ap (λ fs. get_or fs k 0) is ∙ get_or_map first (repeats_of es) k [] 0 (omega (arith, repeats_count))
+    first_at = ap (λ fs. get_or fs k 0) is ∙ get_or-map first (repeats_of es) k [] 0 (omega (arith, repeats_count))
 
     at_k : IsRepeat es (ends_of es k)
     at_k = All-get_or (IsRepeat es) (repeats_of es) k [] (omega (arith, repeats_count)) (each_repeat es)

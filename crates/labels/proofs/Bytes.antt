@@ -1,6 +1,6 @@
 -- The spelling of a syllable, place by place. Assumes nothing.
 use Rattle.std.proofs.Common.{◌≡◌, ℕ, zero, suc, ◌+◌, ◌-◌, ◌<◌, ◌≤◌, min, List, [], ◌∷◌, map, length, get_or, take, refl, ap, ◌∙◌, arith}
-use Rattle.std.proofs.lemmas.List.{take_all, length-map, length-take, get_or_map, get_or-take, get_or_past}
+use Rattle.std.proofs.lemmas.List.{take_all, length-map, length-take, get_or-map, get_or-take, get_or_past}
 use Rattle.labels.specs.Spellings.{byte, bytes_of, syllable_spelling}
 
 pub spelling_length : (bs : List ℕ) → length (syllable_spelling (bytes_of bs)) ≡ 1 + min (length bs) 30
@@ -17,7 +17,7 @@ spelling_at bs (suc k) h l m b =
     let back : suc k - 1 ≡ k = omega arith in
     let below : k < length bs = omega arith in
     let small : get_or bs k 0 < 256 = rw (← back) b in
-    let read : get_or (map byte (take 30 bs)) k 0 ≡ byte (get_or bs k 0) = get_or_map byte (take 30 bs) k 0 0 (omega (arith, length-take 30 bs)) ∙ ap byte (get_or-take 30 bs k 0 (omega arith)) in
+    let read : get_or (map byte (take 30 bs)) k 0 ≡ byte (get_or bs k 0) = get_or-map byte (take 30 bs) k 0 0 (omega (arith, length-take 30 bs)) ∙ ap byte (get_or-take 30 bs k 0 (omega arith)) in
     rw back (omega (arith, read))
 
 bytes_stay : (bs : List ℕ) → ((i : ℕ) → get_or bs i 0 < 256) → map byte bs ≡ bs
