@@ -1,9 +1,9 @@
 -- The law of numbers, and the steps of asking for one pair after another. Assumes nothing.
-use Rattle.std.proofs.Common.{◌≡◌, ℕ, zero, suc, ◌+◌, ◌-◌, ◌<◌, ◌≤◌, Bool, true, false, ◌&&◌, eqb, ◌⊎◌, ◌↔◌, List, [], ◌∷◌, ◌++◌, length, get_or, take, drop, set, Some, None, Option, sym, refl, ap, ◌∙◌, inl, inr, ⊎_elim, arith}
+use Rattle.std.proofs.Common.{◌≡◌, ℕ, zero, suc, ◌+◌, ◌<◌, ◌≤◌, Bool, true, false, ◌&&◌, eqb, List, [], ◌∷◌, ◌++◌, length, get_or, take, drop, set, Some, None, Option, sym, refl, ap, ◌∙◌, ⊎_elim, arith}
 use Rattle.std.proofs.lemmas.List.{append_assoc, append-nil, drop_more, drop_all, drop-drop, drop-set-lt, take_more_set, take-append-drop, take_at, length-take-le, get_or-take}
-use Rattle.std.proofs.lemmas.Bool.{cases_Bool, cases_lt, and_from, and_left, and_right, eq-eqb, ne_eqb}
+use Rattle.std.proofs.lemmas.Bool.{cases_Bool, cases_lt, and_from, and_right, eq-eqb, ne_eqb}
 use Rattle.registers.specs.declared.pairs.Pair.{Pair}
-use Rattle.registers.specs.Pairs.{pair, at, holds, place, number_in, pair_at, Apart}
+use Rattle.registers.specs.Pairs.{pair, at, holds, place, number_in, Apart}
 use Rattle.registers.specs.Holding.{holding}
 use Rattle.registers.specs.Asking.{holding_all, numbers, fitting, answered, Law, same_number, same_numbers}
 use Rattle.registers.proofs.Listed.{at_place, holds_append, place_append, number_some, some_number, pair_at_number, number_of_pair_at, holding_old, holding_new, holding_full}

@@ -1,11 +1,11 @@
 -- Chains: what the last of a bucket is, how a walk along a chain goes, and what a new pair at a chain's head leaves.
 -- Of the bucket function only this is used: it is a function of the pair. Assumes nothing.
-use Rattle.std.proofs.Common.{◌≡◌, ℕ, zero, suc, ◌+◌, ◌-◌, ◌<◌, ◌≤◌, max, Bool, true, false, cond, eqb, ◌≢◌, ◌⊎◌, List, [], ◌∷◌, ◌++◌, length, get_or, set, sym, refl, ap, ◌∙◌, inl, inr, ⊎_elim, add-one, arith}
+use Rattle.std.proofs.Common.{◌≡◌, ℕ, zero, suc, ◌+◌, ◌-◌, ◌<◌, ◌≤◌, max, false, eqb, List, [], ◌∷◌, ◌++◌, length, get_or, set, sym, refl, ap, ◌∙◌, ⊎_elim, add-one, arith}
 use Rattle.std.proofs.lemmas.List.{length_push, get_or_append_left, get_or_push, get_or-set_same, get_or-set_other}
 use Rattle.std.proofs.lemmas.Bool.{cases_Bool, cases_eq, cases_lt, eqb-true, eqb-false, eq-eqb, ne_eqb, cond-true, cond-false}
 use Rattle.registers.specs.declared.pairs.Pair.{Pair}
 use Rattle.registers.specs.declared.slots.Slot.{Slot}
-use Rattle.registers.specs.Pairs.{pair, at, same, holds, Apart}
+use Rattle.registers.specs.Pairs.{pair, at, same, holds}
 use Rattle.registers.specs.Mixing.{bucket_index}
 use Rattle.registers.specs.Chains.{last_in, next_at, members, chain_length, longest_below, Headed, Linked}
 use Rattle.registers.proofs.Listed.{same_eq, holds_none}

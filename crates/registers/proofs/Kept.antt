@@ -1,12 +1,12 @@
 -- What the invariants of a bucket register say of what is read from its tables. Assumes nothing.
-use Rattle.std.proofs.Common.{◌≡◌, ℕ, ◌+◌, ◌<◌, ◌≤◌, false, List, [], ◌∷◌, ◌++◌, length, get_or, set, vec_items, vec_len, sym, refl, ap, ◌∙◌, arith}
+use Rattle.std.proofs.Common.{◌≡◌, ℕ, ◌+◌, ◌<◌, ◌≤◌, false, List, [], ◌∷◌, ◌++◌, length, get_or, set, vec_items, vec_len, sym, ap, ◌∙◌, arith}
 use Rattle.std.proofs.lemmas.List.{get_or_read}
 use Rattle.registers.specs.declared.pairs.Pair.{Pair}
 use Rattle.registers.specs.declared.slots.Slot.{Slot}
 use Rattle.registers.specs.declared.by_buckets.Buckets.{Buckets}
 use Rattle.registers.specs.Pairs.{at, holds, Apart}
 use Rattle.registers.specs.Mixing.{bucket_index}
-use Rattle.registers.specs.Chains.{pairs_in, next_at, last_in, within_buckets, Headed, Linked}
+use Rattle.registers.specs.Chains.{pairs_in, last_in, within_buckets, Headed, Linked}
 use Rattle.registers.proofs.Listed.{apart_push}
 use Rattle.registers.proofs.Slotted.{slot, pairs_length, pairs_more, slot_pair, slot_next, next_same, next_other, room_within, room_some}
 use Rattle.registers.proofs.Chained.{headed_push, linked_push}

@@ -1,9 +1,9 @@
 -- Facts on lists of pairs, a pair's place and number in them, and the list with a pair held. Assumes nothing.
-use Rattle.std.proofs.Common.{◌≡◌, ℕ, zero, suc, ◌+◌, ◌-◌, ◌<◌, ◌≤◌, Bool, true, false, cond, not, ◌&&◌, ◌||◌, eqb, ltb, leb, ◌⊎◌, List, [], ◌∷◌, ◌++◌, length, get_or, Some, None, Option, sym, refl, ap, ◌∙◌, inl, inr, ⊎_elim, one-add, arith}
+use Rattle.std.proofs.Common.{◌≡◌, ℕ, zero, suc, ◌+◌, ◌-◌, ◌<◌, ◌≤◌, true, false, leb, ◌⊎◌, List, [], ◌∷◌, ◌++◌, length, Some, None, sym, refl, ap, ◌∙◌, inl, inr, ⊎_elim, one-add, arith}
 use Rattle.std.proofs.lemmas.List.{length_push, get_or_append_left, get_or_push}
-use Rattle.std.proofs.lemmas.Bool.{leb-true, lt-ltb, le-ltb, le-leb, lt-leb, and_parts, and_from, and_left, and_right, or_left, or_right, or_from, or_parts, eqb-true, eq-eqb, cases_Bool, cases_lt, cases_order, true≢false, cond-true, cond-false}
+use Rattle.std.proofs.lemmas.Bool.{lt-ltb, le-ltb, le-leb, lt-leb, and_parts, and_from, and_left, and_right, or_left, or_right, or_from, or_parts, eqb-true, eq-eqb, cases_Bool, cases_lt, true≢false, cond-true, cond-false}
 use Rattle.registers.specs.declared.pairs.Pair.{Pair}
-use Rattle.registers.specs.Pairs.{pair, at, same, holds, place, place_in, from_place, number_in, pair_at, Apart, Sound}
+use Rattle.registers.specs.Pairs.{pair, at, same, holds, place, place_in, from_place, number_in, pair_at, Apart}
 use Rattle.registers.specs.Holding.{holding}
 
 -- Two pairs.

@@ -1,12 +1,11 @@
 -- A table of slots whose first places are a register's pairs. Assumes nothing.
-use Rattle.std.proofs.Common.{◌≡◌, ℕ, ◌+◌, ◌-◌, ◌<◌, ◌≤◌, min, true, false, cond, eqb, ◌⊎◌, List, [], ◌∷◌, ◌++◌, map, length, get_or, take, set, sym, refl, ap, ◌∙◌, inl, inr, ⊎_elim, arith}
+use Rattle.std.proofs.Common.{◌≡◌, ℕ, ◌+◌, ◌<◌, ◌≤◌, min, eqb, List, [], ◌∷◌, ◌++◌, map, length, get_or, take, set, sym, ap, ◌∙◌, ⊎_elim, arith}
 use Rattle.std.proofs.lemmas.List.{get_or-take, get_or_read, get_or-map, length-map, length-take-le, take_more_set, map_push, get_or-set_same, get_or-set_other}
-use Rattle.std.proofs.lemmas.Bool.{cases_Bool, cases_eq, eq-eqb, ne_eqb, eqb-true, eqb-false, cond-true, cond-false}
+use Rattle.std.proofs.lemmas.Bool.{cases_Bool, eq-eqb, eqb-false, cond-true, cond-false}
 use Rattle.registers.specs.declared.pairs.Pair.{Pair}
 use Rattle.registers.specs.declared.slots.Slot.{Slot}
-use Rattle.registers.specs.Pairs.{pair, at, holds, Apart}
+use Rattle.registers.specs.Pairs.{pair, at}
 use Rattle.registers.specs.Chains.{pairs_in, next_at, within_buckets}
-use Rattle.registers.proofs.Listed.{apart_push}
 
 abbrev pub slot : Pair → ℕ → Slot
 slot p n = record { pair = p; next = n }

@@ -1,5 +1,5 @@
 -- Chains: the pairs of one bucket, from the last that arrived to the first.
-use Rattle.std.specs.Prelude.{◌≡◌, ℕ, zero, suc, ◌+◌, ◌<◌, ◌≤◌, min, max, cond, List, map, length, take, vec_items, vec_len, Vec, ◌==◌, slice_index, slice_index_or}
+use Rattle.std.specs.Prelude.{◌≡◌, ℕ, zero, suc, ◌<◌, ◌≤◌, min, max, cond, List, map, length, take, vec_items, vec_len, Vec, ◌==◌, slice_index, slice_index_or}
 use Rattle.std.proofs.Common.{arith, length-take}
 use Rattle.std.proofs.lemmas.List.{length-map}
 use Rattle.std.proofs.lemmas.Bool.{cond_both}

@@ -1,5 +1,5 @@
 -- Lists of pairs as one who only looks reads them: which pairs are held, a pair's number, the pair at a number.
-use Rattle.std.specs.Prelude.{◌≡◌, ℕ, ◌+◌, ◌-◌, ◌<◌, ◌≤◌, Bool, true, false, cond, ◌&&◌, ◌||◌, List, [], ◌∷◌, length, Some, None, Option, ◌==◌, nat_le, slice_index_or}
+use Rattle.std.specs.Prelude.{◌≡◌, ℕ, ◌+◌, ◌-◌, ◌<◌, ◌≤◌, Bool, false, cond, ◌&&◌, ◌||◌, List, [], ◌∷◌, length, Some, None, Option, ◌==◌, nat_le, slice_index_or}
 use Rattle.registers.specs.declared.pairs.Pair.{Pair}
 
 abbrev pub pair : ℕ → ℕ → Pair

@@ -1,5 +1,5 @@
 -- A table whose first places hold a register's pairs.
-use Rattle.std.specs.Prelude.{◌≡◌, ℕ, ◌≤◌, min, List, length, take, vec_items, vec_len, Vec}
+use Rattle.std.specs.Prelude.{ℕ, ◌≤◌, min, take, vec_items, vec_len, Vec}
 use Rattle.std.proofs.Common.{arith, length-take}
 use Rattle.std.specs.declared.alloc.Global.{Global}
 use Rattle.registers.specs.declared.pairs.Pair.{Pair}

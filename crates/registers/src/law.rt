@@ -10,11 +10,11 @@ use crate::pairs::Pair;
 pub fn number_all<R: Register>(register: &mut R, asked: &[Pair], given: &mut [Option<u32>]) -> usize
     ensures count { result ≡ length (fitting asked.now given.old) }
     ensures bound { result ≤ length given.new }
-    ensures front { take result given.new ≡ numbers (room register.old) (pairs register.old) (fitting asked.now given.old) }
-    ensures answers { given.new ≡ answered (room register.old) (pairs register.old) asked.now given.old }
-    ensures after { pairs register.new ≡ holding_all (room register.old) (pairs register.old) (fitting asked.now given.old) }
-    ensures same { room register.new ≡ room register.old }
-    ensures law { Law (room register.old) (fitting asked.now given.old) (numbers (room register.old) (pairs register.old) (fitting asked.now given.old)) (pairs register.new) }
+    ensures front { take result given.new ≡ numbers (R.room register.old) (R.pairs register.old) (fitting asked.now given.old) }
+    ensures answers { given.new ≡ answered (R.room register.old) (R.pairs register.old) asked.now given.old }
+    ensures after { R.pairs register.new ≡ holding_all (R.room register.old) (R.pairs register.old) (fitting asked.now given.old) }
+    ensures same { R.room register.new ≡ R.room register.old }
+    ensures law { Law (R.room register.old) (fitting asked.now given.old) (numbers (R.room register.old) (R.pairs register.old) (fitting asked.now given.old)) (R.pairs register.new) }
 {
     let n = places_for(asked, given);
     ask_first(register, asked, given, n);
@@ -35,11 +35,11 @@ fn ask_first<R: Register>(register: &mut R, asked: &[Pair], given: &mut [Option<
     requires value { n ≡ length (fitting asked.now given.old) }
     requires asked { n ≤ length asked.now }
     requires given { n ≤ length given.old }
-    ensures front { take n given.new ≡ numbers (room register.old) (pairs register.old) (fitting asked.now given.old) }
-    ensures answers { given.new ≡ answered (room register.old) (pairs register.old) asked.now given.old }
-    ensures after { pairs register.new ≡ holding_all (room register.old) (pairs register.old) (fitting asked.now given.old) }
-    ensures same { room register.new ≡ room register.old }
-    ensures law { Law (room register.old) (fitting asked.now given.old) (numbers (room register.old) (pairs register.old) (fitting asked.now given.old)) (pairs register.new) }
+    ensures front { take n given.new ≡ numbers (R.room register.old) (R.pairs register.old) (fitting asked.now given.old) }
+    ensures answers { given.new ≡ answered (R.room register.old) (R.pairs register.old) asked.now given.old }
+    ensures after { R.pairs register.new ≡ holding_all (R.room register.old) (R.pairs register.old) (fitting asked.now given.old) }
+    ensures same { R.room register.new ≡ R.room register.old }
+    ensures law { Law (R.room register.old) (fitting asked.now given.old) (numbers (R.room register.old) (R.pairs register.old) (fitting asked.now given.old)) (R.pairs register.new) }
 {
     for i in 0..n {
         given[i] = register.number(asked[i]);

@@ -1,4 +1,6 @@
 // Registers of pairs: each different pair has a number, its place in the order of arrival, from 1.
+#![tactic(auto)]
+
 mod by_buckets;
 mod by_rows;
 mod law;

@@ -9,17 +9,18 @@ use names::{Fault, Naming};
 use renaming::{Renamed, Unrenamed, rename};
 use std::alloc::Global;
 use std::io::{Read, Write};
+use std::process::ExitCode;
 use std::{env, fs, io};
 
 // A byte more than a text may have, so that a longer one is seen to be too long.
 const MOST: usize = 65_537;
 
-fn main(rt: HostRuntime) -> anyhow::Result<()> {
+fn main(rt: HostRuntime) -> anyhow::Result<ExitCode> {
     match run(&rt) {
-        Ok(()) => Ok(()),
+        Ok(()) => Ok(ExitCode::SUCCESS),
         Err(error) => {
             eprintln!(rt; "{error}")?;
-            Err(error)
+            Ok(ExitCode::FAILURE)
         }
     }
 }
@@ -29,7 +30,7 @@ fn run(rt: &HostRuntime) -> anyhow::Result<()> {
     let _program = words.next();
     let options = match parse(words) {
         Ok(options) => options,
-        Err(slip) => return Err(slip.words().into()),
+        Err(slip) => return Err(anyhow!(slip.words())),
     };
     if options.help {
         rt.println(HELP)?;
@@ -38,7 +39,7 @@ fn run(rt: &HostRuntime) -> anyhow::Result<()> {
     let text = read_text(rt, &options)?;
     match rename(rt.alloc(), &text, options.to) {
         Ok(renamed) => tell(rt, &options, text.len(), &renamed),
-        Err(Unrenamed::Fault(fault)) => Err(refusal(rt.alloc(), fault)?.into()),
+        Err(Unrenamed::Fault(fault)) => Err(anyhow!(refusal(rt.alloc(), fault)?)),
         Err(Unrenamed::Memory) => Err(anyhow!("there is not enough memory")),
     }
 }

@@ -1,4 +1,6 @@
 // Words and numbers as they are typed on a line, with one space between them.
+#![tactic(auto)]
+
 ghost use Rattle.std.specs.Prelude.{◌≡◌, ◌≤◌, length, ◌==◌};
 ghost use Rattle.typed.specs.Typed.{with_digit, number_typed, space_place, first_word, behind};
 

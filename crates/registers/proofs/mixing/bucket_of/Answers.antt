@@ -1,5 +1,4 @@
-use Rattle.std.proofs.Common.{◌≡◌, ◌<◌, sym, ◌∙◌}
-use Rattle.registers.specs.Mixing.{bucket_index}
+use Rattle.std.proofs.Common.{◌∙◌}
 use Rattle.registers.proofs.Mixed.{bucket_within, bucket_by}
 use Rattle.registers.proofs.mixing.bucket_of.Goals as goal
 

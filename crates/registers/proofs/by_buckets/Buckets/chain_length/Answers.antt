@@ -1,4 +1,4 @@
-use Rattle.std.proofs.Common.{◌-◌, ◌<◌, length, arith, rules}
+use Rattle.std.proofs.Common.{◌-◌, ◌<◌, arith, rules}
 use Rattle.registers.proofs.Chained.{counted_first, counted_next, counted_below, come_less}
 use Rattle.registers.proofs.Kept.{held_pairs, buckets, fits, few, count_is, head_read, link_read}
 use Rattle.registers.proofs.by_buckets.Buckets.chain_length.Goals as goal
@@ -8,8 +8,8 @@ loop-number-init c =
     let s = c.args.self.now in
     counted_first (buckets s) (held_pairs s) c.args.bucket _ (head_read s c.args.bucket c.index-number.result.now c.requires c.index-number.ensures)
 
-pub overflow-add-length : goal.overflow-add-length
-overflow-add-length c =
+pub overflow_add-length : goal.overflow_add-length
+overflow_add-length c =
     let s = c.args.self.now in
     let l : c.loop-number.length < 32768 = omega (arith, counted_below (buckets s) (held_pairs s) c.args.bucket c.loop-number.number c.loop-number.length c.loop-number.invariant (omega arith), few s, count_is s) in
     search rules

@@ -14,4 +14,4 @@ returns-then-buckets-eq0 c =
 pub returns : goal.returns
 returns c =
     let s = c.args.self.now in
-    head_of s c.args.pair c.len-buckets.result c.bucket-of.result c.index.result.now c.len-buckets.ensures c.bucket-of.ensures.value c.bucket-of.ensures.within c.index.ensures
+    head_of s c.args.pair c.len-buckets.result c.bucket_of.result c.index.result.now c.len-buckets.ensures c.bucket_of.ensures.value c.bucket_of.ensures.within c.index.ensures

@@ -7,8 +7,8 @@ use Rattle.registers.proofs.by_buckets.Buckets.number_from.Goals as goal
 pub loop-number-init : goal.loop-number-init
 loop-number-init c = let s = c.args.self.now in come_first (buckets s) (held_pairs s) c.args.pair c.args.head c.requires
 
-pub overflow-cast-number : goal.overflow-cast-number
-overflow-cast-number c =
+pub overflow_cast-number : goal.overflow_cast-number
+overflow_cast-number c =
     let s = c.args.self.now in
     let l : c.loop-number.number ≤ 32768 = omega (arith, count_is s, few s) in
     search rules
@@ -16,16 +16,16 @@ overflow-cast-number c =
 pub index-slot-requires : goal.index-slot-requires
 index-slot-requires c = let s = c.args.self.now in omega (arith, count_is s, fits s, s.table.ok.0)
 
-pub returns-then-same-pair : goal.returns-then-same-pair
-returns-then-same-pair c =
+pub returns-then-same_pair : goal.returns-then-same_pair
+returns-then-same_pair c =
     let s = c.args.self.now in
     let n = c.loop-number.number in
     let l : n - 1 < s.count = omega (arith, count_is s) in
     let e = pair_read s (n - 1) c.index-slot.result.now l c.index-slot.ensures in
-    let f = place_at (held_pairs s) (n - 1) c.args.pair s.apart (omega (arith, count_is s, l)) (rw e (sym c.if-same-pair.ensures)) in
+    let f = place_at (held_pairs s) (n - 1) c.args.pair s.apart (omega (arith, count_is s, l)) (rw e (sym c.if-same_pair.ensures)) in
     ap Some (omega arith) ∙ sym (number_some (held_pairs s) c.args.pair (n - 1) f.0 f.1)
 
-below : (c : goal.Else-same-pair) → c.loop-number.number - 1 < c.args.self.now.count
+below : (c : goal.Else-same_pair) → c.loop-number.number - 1 < c.args.self.now.count
 below c = omega (arith, count_is c.args.self.now)
 
 pub loop-number-smaller : goal.loop-number-smaller
@@ -38,7 +38,7 @@ loop-number-preserved c =
     let s = c.args.self.now in
     let n = c.loop-number.number in
     let e = pair_read s (n - 1) c.index-slot.result.now (below c) c.index-slot.ensures in
-    come_next (buckets s) (held_pairs s) c.args.pair n _ c.loop-number.invariant (omega arith) (link_read s (n - 1) c.index-slot.result.now (below c) c.index-slot.ensures) (rw e (sym c.if-same-pair.ensures))
+    come_next (buckets s) (held_pairs s) c.args.pair n _ c.loop-number.invariant (omega arith) (link_read s (n - 1) c.index-slot.result.now (below c) c.index-slot.ensures) (rw e (sym c.if-same_pair.ensures))
 
 pub returns : goal.returns
 returns c =

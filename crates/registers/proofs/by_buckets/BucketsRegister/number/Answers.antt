@@ -15,6 +15,6 @@ returns-in-Some c =
 pub returns-then-held-places : goal.returns-then-held-places
 returns-then-held-places c =
     let s = c.args.self.now in
-    let h = number_not_held (held_pairs s) c.args.pair c.in-default.ensures in
+    let h = number_not_held (held_pairs s) c.args.pair c.in_default.ensures in
     let full : within_buckets (vec_len s.table) (vec_len s.heads) ≤ length (held_pairs s) = omega (arith, c.held.ensures.value, c.places.ensures, c.if-held-places.true) in
     record { answer = sym (numbered_full _ _ _ h full); after = sym (holding_full _ _ _ h full); same = refl }

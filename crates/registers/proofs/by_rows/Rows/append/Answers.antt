@@ -1,14 +1,18 @@
-use Rattle.std.proofs.Common.{◌≡◌, ◌+◌, ◌<◌, min, length, take, Some, vec_items, vec_len, sym, refl, ap, ◌∙◌, arith}
+use Rattle.std.proofs.Common.{◌+◌, ◌<◌, min, length, take, Some, vec_items, vec_len, sym, refl, ap, ◌∙◌, arith}
 use Rattle.std.proofs.lemmas.List.{length-take-le, take_more_set}
 use Rattle.registers.proofs.Listed.{number_not_held, holding_new, numbered_new}
 use Rattle.registers.proofs.Fronts.{front_apart}
 use Rattle.registers.proofs.by_rows.Rows.append.Goals as goal
 
-pub invariant-of-self : goal.invariant-of-self
-invariant-of-self c =
+pub invariant_of-self : goal.invariant_of-self
+invariant_of-self c =
     let s = c.args.self.now in
     let h = number_not_held _ _ (sym c.requires.new) in
-    (omega arith, (omega arith, (front_apart (vec_items s.table) s.count c.args.pair (omega (arith, s.table.ok.0)) s.apart h, tt)))
+    record {
+      within = omega arith;
+      most = omega arith;
+      apart = front_apart (vec_items s.table) s.count c.args.pair (omega (arith, s.table.ok.0)) s.apart h;
+    }
 
 pub returns : goal.returns
 returns c =

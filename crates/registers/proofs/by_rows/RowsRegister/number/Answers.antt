@@ -11,7 +11,7 @@ returns-in-Some c =
 pub returns-then-self-min : goal.returns-then-self-min
 returns-then-self-min c =
     let s = c.args.self.now in
-    let h = number_not_held _ _ c.in-default.ensures in
+    let h = number_not_held _ _ c.in_default.ensures in
     let k = length-take-le s.count (vec_items s.table) (omega (arith, s.table.ok.0)) in
     let full : min (vec_len s.table) 32768 ≤ length (take s.count (vec_items s.table)) = omega (arith, k) in
     record { answer = sym (numbered_full _ _ _ h full); after = sym (holding_full _ _ _ h full); same = refl }
