@@ -1,11 +1,11 @@
 -- Texts cut into their tokens.
-use Rattle.std.proofs.Common.{◌≡◌, ℕ, zero, suc, ◌+◌, ◌-◌, ◌<◌, ◌≤◌, Bool, true, false, cond, not, ◌&&◌, ◌⊎◌, List, [], ◌∷◌, ◌++◌, length, get_or, take, drop, Ok, Err, Option, sym, refl, ap, ◌∙◌, inl, inr, arith}
-use Rattle.std.proofs.lemmas.List.{drop_more, drop_all, drop-drop, take-append-drop, length-take, length-drop, get_or-take, get_or-drop, length-take-le}
+use Rattle.std.proofs.Common.{◌≡◌, ℕ, zero, suc, ◌+◌, ◌-◌, ◌<◌, ◌≤◌, Bool, true, false, not, ◌⊎◌, List, [], ◌∷◌, ◌++◌, length, get_or, take, drop, Ok, Err, Option, sym, refl, ap, ◌∙◌, inl, inr, arith}
+use Rattle.std.proofs.lemmas.List.{drop_more, drop_all, drop-drop, take-append-drop, length-drop, get_or-take, get_or-drop, length-take-le}
 use Rattle.std.proofs.lemmas.Bool.{cond-true, cond-false, and_parts, and_from, cases_lt}
 use Rattle.names.specs.declared.pitches.Naming.{Naming}
 use Rattle.names.specs.declared.refusals.Refusal.{Refusal}
-use Rattle.names.specs.Cutting.{Stretch, Skipped, Ended}
-use Rattle.names.specs.Texts.{Piece, Told, Telling, goes_on, before, pieces, told, telling, silent, stopped, naming_after}
+use Rattle.names.specs.Cutting.{Skipped, Ended}
+use Rattle.names.specs.Texts.{Piece, goes_on, before, pieces, told, telling, silent, stopped, naming_after}
 use Rattle.names.specs.Tokens.{Said, gap, each, token_read}
 
 abbrev pub solid : ℕ → Bool

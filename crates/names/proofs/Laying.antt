@@ -1,7 +1,7 @@
 -- Bytes laid over a part of a buffer, one piece after another.
-use Rattle.std.proofs.Common.{◌≡◌, ℕ, suc, ◌+◌, ◌-◌, ◌<◌, ◌≤◌, List, [], ◌∷◌, ◌++◌, length, take, drop, set, decimal, sym, refl, ap, ◌∙◌, add-one, arith, length-append, length-drop, length-take}
+use Rattle.std.proofs.Common.{◌≡◌, ℕ, suc, ◌+◌, ◌-◌, ◌<◌, ◌≤◌, List, [], ◌∷◌, ◌++◌, length, take, drop, set, decimal, sym, refl, ap, ◌∙◌, arith, length-append, length-drop, length-take}
 use borrow.Rule.Slice.PartMut.{put_mid}
-use Rattle.std.proofs.lemmas.List.{append_assoc, drop-drop, take_at, drop_at, drop-append-le, length-take-le, set_split}
+use Rattle.std.proofs.lemmas.List.{append_assoc, drop-drop, take_at, drop_at, set_split}
 use Rattle.names.specs.Buffers.{laid}
 use Rattle.names.specs.Tokens.{quotes, marked}
 

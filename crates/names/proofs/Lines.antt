@@ -1,5 +1,5 @@
 -- A line of words reads back as its words.
-use Rattle.std.proofs.Common.{◌≡◌, ℕ, zero, suc, ◌+◌, ◌<◌, ◌≤◌, Bool, true, false, cond, not, ◌&&◌, eqb, ltb, leb, List, [], ◌∷◌, ◌++◌, length, Some, None, Ok, Err, codes, decimal, Option, Result, sym, refl, ap, ◌∙◌, arith, length-append}
+use Rattle.std.proofs.Common.{◌≡◌, ℕ, ◌+◌, ◌<◌, ◌≤◌, Bool, true, false, cond, ◌&&◌, ltb, leb, List, [], ◌∷◌, ◌++◌, length, Some, None, Ok, Err, codes, decimal, Option, Result, refl, ap, ◌∙◌, arith, length-append}
 use Rattle.std.specs.List.{AllByRecursion as All}
 use Rattle.std.specs.Char.{is_ascii_digit}
 use Rattle.std.proofs.lemmas.Fmt.{digits_decimal}
@@ -16,10 +16,9 @@ use Rattle.names.specs.Keywords.{keyword_word}
 use Rattle.names.specs.Lines.{spaced, line, is_word, words_of, Typable, LineLaws}
 use Rattle.names.specs.Names.{name}
 use Rattle.names.specs.Pitches.{naming_word}
-use Rattle.names.specs.Texts.{Piece, Told, Telling, goes_on, before, pieces, told, telling, silent, stopped, naming_after, text_told}
-use Rattle.names.specs.Tokens.{Said, naming, syllable, note, rest, frame, gap, plain, each, syllabled, lasting, sung, unless, malformed, quotes, marked, spelled, token_read}
+use Rattle.names.specs.Texts.{Piece, Told, Telling, goes_on, before, pieces, told, telling, stopped, naming_after, text_told}
+use Rattle.names.specs.Tokens.{Said, naming, syllable, note, rest, frame, gap, plain, each, syllabled, lasting, sung, malformed, marked, spelled, token_read}
 use Rattle.names.proofs.Cuts.{solid, piece_token, piece_gap, told_token}
-use Rattle.names.proofs.NameFacts.{whole}
 use Rattle.names.proofs.Numbers.{own}
 use Rattle.names.proofs.TokenFacts.{formed, back, same, unset, naming_back}
 

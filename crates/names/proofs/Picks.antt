@@ -1,5 +1,5 @@
 -- What a list's first that passes a test tells.
-use Rattle.std.proofs.Common.{◌≡◌, Bool, true, false, cond, List, [], ◌∷◌, Some, None, Option, sym, refl, ap, ◌∙◌, arith}
+use Rattle.std.proofs.Common.{◌≡◌, Bool, true, false, cond, List, [], ◌∷◌, Some, sym, refl, ap, ◌∙◌, arith}
 use Rattle.names.specs.Choice.{pick}
 
 pub pick_passes : {X : Type 0} (test : X → Bool) (xs : List X) (x : X) → pick test xs ≡ Some x → test x ≡ true

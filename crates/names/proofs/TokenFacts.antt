@@ -1,13 +1,12 @@
 -- Reading and writing tokens undo each other.
-use Rattle.std.proofs.Common.{◌≡◌, ℕ, zero, suc, ◌+◌, ◌-◌, ◌^◌, ◌<◌, ◌≤◌, Bool, true, false, cond, not, ◌&&◌, eqb, ltb, leb, List, [], ◌∷◌, ◌++◌, length, get_or, take, drop, Some, None, Ok, Err, codes, decimal, Option, Result, sym, refl, ap, ◌∙◌, arith, length-append, length-drop}
+use Rattle.std.proofs.Common.{◌≡◌, ℕ, suc, ◌+◌, ◌-◌, ◌<◌, ◌≤◌, Bool, true, false, cond, not, ◌&&◌, eqb, ltb, leb, List, [], ◌∷◌, ◌++◌, length, get_or, take, drop, Some, None, Ok, Err, codes, decimal, Option, Result, sym, refl, ap, ◌∙◌, arith, length-append, length-drop}
 use Rattle.std.specs.Char.{is_ascii_digit, is_ascii_uppercase}
 use Rattle.std.specs.Str.{bytes_eq}
 use Rattle.std.proofs.lemmas.Fmt.{length-decimal-le, decimal_nonempty}
 use Rattle.std.proofs.lemmas.Slice.Eq.{bytes_eq-Decides}
-use Rattle.std.proofs.lemmas.List.{append_assoc, take_at, drop_at, drop-drop, take-append-drop, length_push, get_or_at, take_more, take_all, drop_more, get_or-drop}
-use Rattle.std.proofs.lemmas.Bool.{cond-true, cond-false, and_parts, and_from, and_left, and_right, eqb-true, leb-true, le-leb, eq-eqb}
+use Rattle.std.proofs.lemmas.List.{append_assoc, take_at, drop_at, take-append-drop, get_or_at, take_more, take_all, drop_more}
+use Rattle.std.proofs.lemmas.Bool.{cond-true, and_parts, and_from, eqb-true, leb-true, le-leb, eq-eqb}
 use Rattle.names.specs.declared.keywords.Keyword.{Keyword}
-use Rattle.names.specs.declared.keywords.Keyword.TheVariants.{Bar, Verse, Chord, Sung, Score, Soprano, Alto1, Alto2, Tenor, Bass1, Bass2, Organ}
 use Rattle.names.specs.declared.pitches.Naming.{Naming}
 use Rattle.names.specs.declared.pitches.Naming.TheVariants.{English, German}
 use Rattle.names.specs.declared.pitches.Pitch.{Pitch}
@@ -24,7 +23,7 @@ use Rattle.names.proofs.NameFacts.{capital, name_lists, no_digit, short, that_na
 use Rattle.names.proofs.Numbers.{reads_some, some_read}
 use Rattle.names.proofs.Picks.{pick_passes}
 use Rattle.names.proofs.Words.{word_named, word_is}
-use Rattle.names.proofs.Reading.{run_within, tail_long, note_tailed, frame_parts, token_naming, token_kind}
+use Rattle.names.proofs.Reading.{note_tailed, frame_parts, token_kind}
 
 pub formed : (t : Bool) (r : Refusal) → unless t r ≡ None → t ≡ true
 formed true r e = refl

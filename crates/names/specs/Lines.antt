@@ -1,5 +1,5 @@
 -- A line of words in one naming. Assumes nothing.
-use Rattle.std.specs.Prelude.{◌≡◌, ℕ, ◌≤◌, Bool, true, false, cond, List, [], ◌∷◌, ◌++◌, map, length, None}
+use Rattle.std.specs.Prelude.{◌≡◌, ℕ, ◌≤◌, Bool, true, false, cond, List, [], ◌∷◌, ◌++◌, length, None}
 use Rattle.std.specs.List.{AllByRecursion as All}
 use Rattle.names.specs.declared.pitches.Naming.{Naming}
 use Rattle.names.specs.Pitches.{naming_word}

@@ -1,5 +1,5 @@
 -- The two lists of note names. Assumes nothing.
-use Rattle.std.specs.Prelude.{ℕ, Bool, cond, List, [], ◌∷◌, length, Some, None, Ok, Err, codes, Option, Result}
+use Rattle.std.specs.Prelude.{ℕ, cond, List, length, Ok, Err, codes, Option, Result}
 use Rattle.std.specs.Option.{ok_or}
 use Rattle.std.specs.Str.{bytes_eq}
 use Rattle.names.specs.declared.pitches.Naming.{Naming}

@@ -1,7 +1,6 @@
 -- Tokens: what a token says, the bytes that say it, and what bytes say. Assumes nothing.
 use Rattle.std.specs.Prelude.{ℕ, ◌+◌, ◌-◌, Bool, true, false, cond, not, ◌&&◌, ◌||◌, List, [], ◌∷◌, ◌++◌, length, take, drop, Some, None, Ok, Err, codes, decimal, Option, Result, ◌==◌, nat_le, nat_lt, slice_index}
 use Rattle.std.specs.Char.{is_ascii_digit, is_ascii_uppercase}
-use Rattle.std.specs.Str.{bytes_eq}
 use Rattle.names.specs.declared.pitches.Naming.{Naming}
 use Rattle.names.specs.declared.pitches.Pitch.{Pitch}
 use Rattle.names.specs.declared.keywords.Keyword.{Keyword}
@@ -10,7 +9,6 @@ use Rattle.names.specs.declared.refusals.Refusal.TheVariants.{TokenTooLong, NotO
 use Rattle.names.specs.declared.tokens.Kind.{Kind}
 use Rattle.names.specs.declared.tokens.Kind.TheVariants.{Syllable, Note, Rest, Frame}
 use Rattle.names.specs.Buffers.{fits, laid}
-use Rattle.names.specs.Choice.{pick}
 use Rattle.names.specs.Decimals.{number_read}
 use Rattle.names.specs.Keywords.{keyword_word, keyword_named}
 use Rattle.names.specs.Names.{name, pitch_read}

@@ -1,7 +1,6 @@
 -- The steps of renaming a text.
 use Rattle.std.proofs.Common.{◌≡◌, ℕ, ◌+◌, ◌<◌, ◌≤◌, Bool, true, false, cond, not, ltb, leb, List, [], ◌∷◌, ◌++◌, length, take, Some, None, Ok, Err, Decides, Option, Result, sym, refl, ap, ◌∙◌, arith}
 use Rattle.std.specs.Str.{bytes_eq}
-use Rattle.std.specs.List.{AllByRecursion as All}
 use Rattle.std.proofs.lemmas.Slice.Eq.{bytes_eq-Decides}
 use Rattle.std.proofs.lemmas.List.{append_assoc, append-nil}
 use Rattle.std.proofs.lemmas.Bool.{cond-true, cond-false, le-leb, lt-leb, ltb-false}
@@ -14,15 +13,15 @@ use Rattle.names.specs.declared.Token.{Token}
 use Rattle.names.specs.declared.Token.TheVariants as token
 use Rattle.names.specs.Buffers.{fits, laid}
 use Rattle.names.specs.Heard.{said}
-use Rattle.names.specs.Lines.{line, spaced, is_word, words_of, Typable}
+use Rattle.names.specs.Lines.{line, spaced, is_word, words_of}
 use Rattle.names.specs.Pitches.{naming_word}
 use Rattle.names.specs.Reader.{opening}
 use Rattle.names.specs.Texts.{Told, Telling, first_of, later_than_first, later, pieces, told, stopped, text_told}
-use Rattle.names.specs.Tokens.{Said, naming, syllable, note, rest, frame, malformed, spelled, placed, buffered}
+use Rattle.names.specs.Tokens.{Said, malformed, spelled, placed, buffered}
 use Rattle.names.proofs.Laying.{laid_front}
 use Rattle.names.proofs.Lines.{spelled_short, line_laws, text_few}
 use Rattle.renaming.specs.declared.Tally.{Tally}
-use Rattle.renaming.specs.Renaming.{one, none, is_note, is_syllable, is_rest, is_frame, added, changes, appended, Appends, tallied, renamed, unless_faulty, unless_long, Renews, Room, Sofar}
+use Rattle.renaming.specs.Renaming.{one, none, is_note, is_syllable, is_rest, is_frame, added, appended, Appends, tallied, renamed, unless_faulty, unless_long, Renews, Room, Sofar}
 
 -- a token that is no naming word is a word
 pub word_unless : (k : Token) → ((n : Naming) → k ≡ token.Naming n → ⊥) → is_word (said k) ≡ true

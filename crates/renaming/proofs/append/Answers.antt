@@ -1,6 +1,5 @@
-use Rattle.std.proofs.Common.{◌≡◌, ◌-◌, take, vec_items, sym, refl, ap, ◌∙◌, arith, rules}
+use Rattle.std.proofs.Common.{◌≡◌, ◌-◌, take, vec_items, sym, refl, ap, ◌∙◌, arith}
 use Rattle.std.proofs.lemmas.Slice.Eq.{slice_eq-Decides}
-use Rattle.std.proofs.lemmas.Slice.{pushed}
 use Rattle.names.specs.Heard.{said}
 use Rattle.names.specs.Reader.{told_of_placed}
 use Rattle.renaming.proofs.Renewing.{word_unless, place_is, front_is, appends}

@@ -1,4 +1,4 @@
-use Rattle.std.proofs.Common.{◌≡◌, length, drop, Ok, vec_items, vec_len, sym, refl, ap, ◌∙◌, arith, rules}
+use Rattle.std.proofs.Common.{drop, Ok, vec_items, sym, ap, ◌∙◌, rules}
 use Rattle.names.specs.Reader.{unread, told_of_placed, told_next}
 use Rattle.names.specs.Texts.{pieces}
 use Rattle.names.proofs.Lines.{told_formed}

@@ -1,4 +1,4 @@
-use Rattle.std.proofs.Common.{◌≡◌, ◌<◌, Some, sym, ap, ◌∙◌, arith, rules}
+use Rattle.std.proofs.Common.{Some, sym, ap, ◌∙◌, arith, rules}
 use Rattle.names.proofs.Numbers.{none_ill_led, value_reads, value_none}
 use Rattle.names.proofs.decimals.read_number.Goals as goal
 

@@ -1,4 +1,4 @@
-use Rattle.std.proofs.Common.{◌≡◌, ◌+◌, not, eqb, sym, ap, ◌∙◌, arith, rules}
+use Rattle.std.proofs.Common.{not, eqb, arith, rules}
 use Rattle.std.proofs.lemmas.List.{at_drop_all}
 use Rattle.names.specs.Tokens.{colon}
 use Rattle.names.proofs.Reading.{run_more}

@@ -1,6 +1,6 @@
-use Rattle.std.proofs.Common.{◌≡◌, ℕ, List, drop, Some, None, sym, refl, ap, ◌∙◌}
+use Rattle.std.proofs.Common.{drop, Some, None, sym, refl, ap, ◌∙◌}
 use Rattle.names.specs.Keywords.{keyword_named}
-use Rattle.names.specs.Tokens.{rank_read, frame_read}
+use Rattle.names.specs.Tokens.{rank_read}
 use Rattle.names.proofs.Reading.{frame_parts}
 use Rattle.names.proofs.tokens.read_frame.Goals as goal
 

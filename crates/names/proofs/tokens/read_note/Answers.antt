@@ -1,7 +1,7 @@
-use Rattle.std.proofs.Common.{◌≡◌, ◌≤◌, length, take, drop, Some, None, Ok, Err, sym, refl, ap, ◌∙◌, arith}
+use Rattle.std.proofs.Common.{length, drop, Some, None, Ok, sym, ap, ◌∙◌, arith}
 use Rattle.std.proofs.lemmas.Result.{err_from_is_err_and}
 use Rattle.names.specs.Names.{pitch_read}
-use Rattle.names.specs.Tokens.{note, note_name, note_tail, note_read, length_read}
+use Rattle.names.specs.Tokens.{note, note_tail, note_read, length_read}
 use Rattle.names.proofs.Reading.{name_within, front_is, back_is, struck_is, octave_is, tail_long, note_nameless, note_tailless, note_tailed}
 use Rattle.names.proofs.tokens.read_note.Goals as goal
 

@@ -1,5 +1,4 @@
-use Rattle.std.proofs.Common.{◌≡◌, ◌-◌, length, take, drop, sym, refl, ap, ◌∙◌, arith}
-use Rattle.names.specs.Tokens.{syllabled}
+use Rattle.std.proofs.Common.{sym, refl, ◌∙◌}
 use Rattle.names.proofs.Reading.{unquoted, unsyllabled, syllable_is}
 use Rattle.names.proofs.tokens.read_syllable.Goals as goal
 

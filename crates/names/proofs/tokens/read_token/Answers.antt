@@ -1,4 +1,4 @@
-use Rattle.std.proofs.Common.{sym, ◌∙◌}
+use Rattle.std.proofs.Common.{sym}
 use Rattle.names.specs.declared.tokens.Kind.TheVariants.{Syllable, Note, Rest, Frame}
 use Rattle.names.proofs.Reading.{token_long, token_naming, token_kind, hears}
 use Rattle.names.proofs.TokenFacts.{token_laws}

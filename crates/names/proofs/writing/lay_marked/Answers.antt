@@ -1,4 +1,4 @@
-use Rattle.std.proofs.Common.{◌≡◌, ◌+◌, ◌≤◌, [], ◌∷◌, ◌++◌, length, decimal, sym, refl, ap, ◌∙◌, arith, rules}
+use Rattle.std.proofs.Common.{◌≡◌, [], ◌∷◌, ◌++◌, decimal, refl, arith, rules}
 use Rattle.std.proofs.lemmas.List.{append_assoc, length_push}
 use Rattle.names.specs.Buffers.{laid}
 use Rattle.names.specs.Tokens.{marked}

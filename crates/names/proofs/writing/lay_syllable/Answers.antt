@@ -1,4 +1,4 @@
-use Rattle.std.proofs.Common.{◌≡◌, ◌+◌, ◌≤◌, [], ◌∷◌, ◌++◌, length, sym, refl, ap, ◌∙◌, arith, rules}
+use Rattle.std.proofs.Common.{◌≡◌, [], ◌∷◌, refl, arith, rules}
 use Rattle.names.specs.Buffers.{laid}
 use Rattle.names.specs.Tokens.{quotes}
 use Rattle.names.proofs.Laying.{laid_then, length_quotes}

@@ -1,4 +1,4 @@
-use Rattle.std.proofs.Common.{◌≡◌, ◌+◌, ◌≤◌, [], ◌∷◌, ◌++◌, length, codes, sym, refl, ap, ◌∙◌}
+use Rattle.std.proofs.Common.{◌+◌, length, codes, sym, ap, ◌∙◌}
 use Rattle.names.specs.Buffers.{laid}
 use Rattle.names.specs.Heard.{said}
 use Rattle.names.specs.Tokens.{spelled, quotes, marked}

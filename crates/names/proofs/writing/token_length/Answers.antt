@@ -1,4 +1,4 @@
-use Rattle.std.proofs.Common.{◌≡◌, ℕ, ◌+◌, ◌≤◌, Bool, true, leb, [], ◌∷◌, ◌++◌, length, Some, None, Ok, Err, codes, sym, refl, ap, ◌∙◌, arith, rules}
+use Rattle.std.proofs.Common.{◌≡◌, ℕ, ◌+◌, true, leb, [], ◌∷◌, ◌++◌, length, Some, None, Ok, Err, codes, sym, refl, ap, ◌∙◌, arith}
 use Rattle.std.proofs.lemmas.List.{length_push}
 use Rattle.std.proofs.lemmas.Bool.{le-leb}
 use Rattle.names.specs.declared.pitches.Naming.{Naming}
@@ -8,7 +8,7 @@ use Rattle.names.specs.declared.tokens.Token.{Token}
 use Rattle.names.specs.Heard.{said}
 use Rattle.names.specs.Keywords.{keyword_word}
 use Rattle.names.specs.Names.{name}
-use Rattle.names.specs.Tokens.{note, rest, frame, spelled, malformed, unless, lengthened}
+use Rattle.names.specs.Tokens.{spelled, malformed, unless, lengthened}
 use Rattle.names.proofs.Laying.{length_marked, length_quotes}
 use Rattle.names.proofs.writing.token_length.Goals as goal
 

@@ -1,5 +1,5 @@
-use Rattle.std.proofs.Common.{◌≡◌, drop, Ok, Err, sym, ap, ◌∙◌}
-use Rattle.names.specs.Heard.{said, heard}
+use Rattle.std.proofs.Common.{drop, sym, ap, ◌∙◌}
+use Rattle.names.specs.Heard.{said}
 use Rattle.names.specs.Reader.{piece_of}
 use Rattle.names.specs.Texts.{first_of, later, pieces}
 use Rattle.names.proofs.Cuts.{told_none, told_fault, told_token}
