@@ -15,6 +15,7 @@ use book::{Answer, Call, perform_all};
 use registers::{Buckets, Slot};
 use std::alloc::{AllocError, Global};
 use std::io::{BufRead, BufReader};
+use std::process::ExitCode;
 use std::{env, io};
 
 const BUCKETS: usize = 32_768;
@@ -35,12 +36,12 @@ struct Session<'a> {
     stray: bool,
 }
 
-fn main(rt: HostRuntime) -> anyhow::Result<()> {
+fn main(rt: HostRuntime) -> anyhow::Result<ExitCode> {
     match run(&rt) {
-        Ok(()) => Ok(()),
+        Ok(()) => Ok(ExitCode::SUCCESS),
         Err(error) => {
             eprintln!(rt; "{error}")?;
-            Err(error)
+            Ok(ExitCode::FAILURE)
         }
     }
 }
@@ -50,7 +51,7 @@ fn run(rt: &HostRuntime) -> anyhow::Result<()> {
     let _program = words.next();
     let options = match parse(words) {
         Ok(options) => options,
-        Err(slip) => return Err(slip.words().into()),
+        Err(slip) => return Err(anyhow!(slip.words())),
     };
     if options.help {
         rt.println(HELP)?;

@@ -1,9 +1,9 @@
 -- Words read back from their group numbers. Assumes nothing.
-use Rattle.std.proofs.Common.{◌≡◌, ℕ, zero, suc, ◌+◌, ◌≤◌, true, List, [], ◌∷◌, ◌++◌, reverse, length, take, drop, Some, None, sym, refl, ap, ◌∙◌, arith}
+use Rattle.std.proofs.Common.{◌≡◌, ℕ, zero, suc, ◌≤◌, List, [], ◌∷◌, reverse, length, Some, refl, ap, ◌∙◌, arith}
 use mathlib.Core.List.{reverse_aux}
 use Rattle.std.proofs.lemmas.List.{length-append, take_at, drop_at, reverse-reverse, length-reverse}
 use Rattle.registers.specs.declared.pairs.Pair.{Pair}
-use Rattle.registers.specs.Pairs.{pair, holds, pair_at}
+use Rattle.registers.specs.Pairs.{pair, pair_at}
 use Rattle.registers.proofs.Listed.{pair_at_number}
 use Rattle.book.specs.Groups.{number_of, chain, Links, items, group, groups, Held}
 use Rattle.book.specs.Passages.{Row, none, ◌▹◌, over, count, node}

@@ -1,8 +1,8 @@
 -- The children of a passage. Assumes nothing.
 use Rattle.std.proofs.Common.{◌≡◌, ℕ, zero, suc, ◌+◌, ◌-◌, ◌<◌, ◌≤◌, List, [], ◌∷◌, ◌++◌, map, length, get_or, take, sym, refl, ap, ◌∙◌, add-one, arith}
-use Rattle.std.proofs.lemmas.List.{append-nil, append_assoc, take-take, take_at, length-append, length-take-le, take_more}
+use Rattle.std.proofs.lemmas.List.{append-nil, append_assoc, take-take, take_at, length-take-le, take_more}
 use Rattle.book.specs.Passages.{Passage, Row, none, ◌▹◌, over, count, last, size, sizes, postfix, postfixes}
-use Rattle.book.specs.Tops.{made, push, reading, tops, FormedOn, Formed, top, passage_at, start_at}
+use Rattle.book.specs.Tops.{push, reading, tops, FormedOn, Formed, top, passage_at, start_at}
 use Rattle.book.specs.Words.{Word, word}
 use Rattle.book.proofs.Notations.{postfix_tops, tops_postfixes, formed_take, count_last}
 use Rattle.book.proofs.Growing.{reading_push}

@@ -1,13 +1,12 @@
 -- Lines of words read back. Assumes nothing.
-use Rattle.std.proofs.Common.{◌≡◌, ℕ, ◌≤◌, Bool, true, false, cond, List, [], ◌∷◌, map, length, Some, None, Option, sym, refl, ap, ◌∙◌, arith}
+use Rattle.std.proofs.Common.{◌≡◌, ℕ, List, [], ◌∷◌, map, Some, None, Option, sym, refl, ap, ◌∙◌, arith}
 use Rattle.std.specs.List.{AllByRecursion as All}
-use Rattle.names.specs.declared.pitches.Naming.{Naming}
 use Rattle.names.specs.Lines.{Typable, line, words_of}
 use Rattle.names.specs.Texts.{Told, text_told}
 use Rattle.names.specs.Tokens.{Said, naming, syllable, note, rest, frame}
 use Rattle.names.proofs.Lines.{line_laws}
 use Rattle.book.specs.declared.readings.Reading.TheVariants.{Written}
-use Rattle.book.specs.Readings.{word_of, placed, said_of, text_words}
+use Rattle.book.specs.Readings.{word_of, placed, said_of}
 use Rattle.book.specs.Words.{Word}
 use Rattle.sheets.specs.Typing.{token_of, with_token, tokens_of}
 use Rattle.sheets.specs.SheetLaws.{LinesBack}

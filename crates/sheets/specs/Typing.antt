@@ -2,7 +2,6 @@
 use Rattle.std.specs.Prelude.{◌≡◌, ℕ, Bool, true, false, cond, ◌&&◌, List, [], ◌∷◌, Some, None, Option, ◌==◌, nat_eq, nat_le, nat_lt}
 use Rattle.names.specs.declared.keywords.Keyword.{Keyword}
 use Rattle.names.specs.declared.pitches.Alteration.{Alteration}
-use Rattle.names.specs.declared.pitches.Pitch.{Pitch}
 use Rattle.names.specs.declared.pitches.Step.{Step}
 use Rattle.names.specs.Choice.{pick}
 use Rattle.names.specs.Keywords.{keyword_numbered}

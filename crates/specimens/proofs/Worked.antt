@@ -1,5 +1,5 @@
 -- The worked examples, by computing. Assumes nothing.
-use Rattle.std.proofs.Common.{◌≡◌, ℕ, List, [], ◌∷◌, Ok, Err, codes, sym, refl, ap, ◌∙◌}
+use Rattle.std.proofs.Common.{◌≡◌, [], ◌∷◌, Ok, Err, codes, sym, refl, ◌∙◌}
 use Rattle.names.specs.declared.refusals.Refusal.TheVariants.{NoNaming, UnknownName}
 use Rattle.names.specs.Texts.{pieces, told as text-told}
 use Rattle.names.specs.Tokens.{token_read, note_read, frame_read}
@@ -10,10 +10,8 @@ use Rattle.names.specs.Names.{pitch_named}
 use Rattle.registers.specs.Pairs.{place_in}
 use Rattle.registers.specs.Holding.{holding}
 use Rattle.book.specs.declared.readings.Reading.TheVariants.{Written, Sounding}
-use Rattle.book.specs.Groups.{registered}
 use Rattle.book.specs.States.{refusal}
 use Rattle.book.specs.Taken.{entries_of}
-use Rattle.book.specs.Linking.{repeats_of}
 use Rattle.book.specs.Questions.{listing, word_listed, word_table}
 use Rattle.book.specs.Arrangements.{tops, close, repeats, list, group, took, counted, done, told, listed}
 use Rattle.book.specs.Readings.{fault_at}

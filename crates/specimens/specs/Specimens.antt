@@ -1,5 +1,5 @@
 -- Worked examples: texts and words, and what a book over an empty register of 4,096 places makes of them. Assumes nothing.
-use Rattle.std.specs.Prelude.{◌≡◌, ℕ, List, [], ◌∷◌, map, replicate, pos, Ok, Err, codes}
+use Rattle.std.specs.Prelude.{◌≡◌, ℕ, List, [], ◌∷◌, map, pos, Ok, Err, codes}
 use Rattle.names.specs.declared.pitches.Step.TheVariants as step
 use Rattle.names.specs.declared.pitches.Alteration.TheVariants as alteration
 use Rattle.names.specs.declared.pitches.Pitch.{Pitch}
