@@ -1,4 +1,6 @@
 // Numbers pairs by a row register and a bucket register side by side, and prints what each gave.
+#![tactic(auto)]
+
 use anyhow::anyhow;
 use numbers_text::{Answer, count_after, read_pair, word_for};
 use registers::{Buckets, Pair, Register, Rows, Slot, side_by_side};

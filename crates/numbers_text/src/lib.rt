@@ -1,4 +1,6 @@
 // What the program `numbers` reads and tells: pairs as text, and a word for each.
+#![tactic(auto)]
+
 mod reading;
 mod telling;
 

@@ -8,7 +8,7 @@ ghost use Rattle.numbers_text.specs.Told.{told, told_of, counted};
 use std::fmt;
 
 // Whether a pair was appended, was held before, or found no place.
-#[derive(Clone, Copy)]
+#[derive(Clone, Copy, PartialEq, Eq, Debug)]
 pub enum Word {
     New,
     Known,

@@ -14,9 +14,9 @@ pub struct Shelf<R: Register> {
 impl<R: Register> Shelf<R> {
     // The number of the pair in the shelf's register.
     pub fn ask(&mut self, pair: Pair) -> Option<u32>
-        ensures answer { result ≡ number_in (holding (room self.old.register) (pairs self.old.register) pair) pair }
-        ensures after { pairs self.new.register ≡ holding (room self.old.register) (pairs self.old.register) pair }
-        ensures same { room self.new.register ≡ room self.old.register }
+        ensures answer { result ≡ number_in (holding (R.room self.old.register) (R.pairs self.old.register) pair) pair }
+        ensures after { R.pairs self.new.register ≡ holding (R.room self.old.register) (R.pairs self.old.register) pair }
+        ensures same { R.room self.new.register ≡ R.room self.old.register }
     {
         self.asked = self.asked.wrapping_add(1);
         self.register.number(pair)
