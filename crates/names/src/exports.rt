@@ -8,12 +8,7 @@ use crate::pitches::{Alteration, Naming, Pitch, Step};
 use crate::refusals::Refusal;
 use crate::spellings::{read_name, write_name};
 
-pub fn zoepurd_read_name(
-    naming: u8,
-    name: &[u8],
-    step: &mut u8,
-    alteration: &mut i8,
-) -> u8
+pub fn zoepurd_read_name(naming: u8, name: &[u8], step: &mut u8, alteration: &mut i8) -> u8
     ensures answer { result ≡ code (read_in (naming_numbered naming) name.now) }
     ensures step { step.new ≡ step_or (read_in (naming_numbered naming) name.now) step.old }
     ensures alteration { alteration.new ≡ alteration_or (read_in (naming_numbered naming) name.now) alteration.old }
