@@ -4,8 +4,7 @@ use Rattle.std.proofs.lemmas.List.{at_drop_more, at_drop_all}
 use Rattle.registers.specs.declared.pairs.Pair.{Pair}
 use Rattle.registers.specs.Pairs.{pair, number_in}
 use Rattle.registers.specs.Holding.{holding}
-use Rattle.book.specs.Words.{Word, word}
-use Rattle.book.specs.Groups.{number_of, hold, entered, reached, items, Enters}
+use Rattle.book.specs.Groups.{number_of, hold, entered, reached, Enters}
 use Rattle.book.proofs.Numbered.{length_hold, hold_in_room, holds_hold, number_answered, number_within}
 use Rattle.book.proofs.Counts.{length_entered}
 

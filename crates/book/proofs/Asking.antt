@@ -1,5 +1,5 @@
 -- Questions, said of the words. Assumes nothing.
-use Rattle.std.proofs.Common.{◌≡◌, ℕ, zero, suc, ◌+◌, ◌-◌, ◌<◌, ◌≤◌, Bool, true, false, cond, ◌&&◌, eqb, ltb, leb, List, [], ◌∷◌, ◌++◌, map, length, get_or, drop, Ok, Err, filter, Result, sym, refl, ap, ◌∙◌, arith}
+use Rattle.std.proofs.Common.{◌≡◌, ℕ, zero, suc, ◌+◌, ◌-◌, ◌<◌, ◌≤◌, Bool, true, false, cond, ◌&&◌, eqb, ltb, leb, List, [], ◌∷◌, ◌++◌, length, get_or, drop, Ok, Err, filter, Result, sym, refl, ap, ◌∙◌, arith}
 use Rattle.std.specs.List.{flat_map, AllByRecursion as All, range_with_len}
 use Rattle.std.proofs.lemmas.Bool.{cond_both, ltb-true}
 use Rattle.std.proofs.lemmas.List.{length-append}
@@ -10,15 +10,15 @@ use Rattle.registers.specs.declared.pairs.Pair.{Pair}
 use Rattle.book.specs.declared.entries.Entry.{Entry}
 use Rattle.book.specs.declared.linking.Listed.{Listed}
 use Rattle.book.specs.Words.{Word}
-use Rattle.book.specs.Passages.{count, size}
-use Rattle.book.specs.Tops.{tops, Formed, passage_at, start_at}
+use Rattle.book.specs.Passages.{size}
+use Rattle.book.specs.Tops.{Formed, passage_at}
 use Rattle.book.specs.Groups.{group_at, registered}
 use Rattle.book.specs.Repeats.{first, ends, listed_at, repeats}
 use Rattle.book.specs.Entries.{entry}
 use Rattle.book.specs.States.{State}
-use Rattle.book.specs.Taken.{entry_at, entries_of, entries_on, state_of, Holds}
+use Rattle.book.specs.Taken.{entries_of, state_of}
 use Rattle.book.specs.Linking.{number_at, repeats_of, ends_with, ends_of, listing_from, listed_answer, listed_table}
-use Rattle.book.specs.Questions.{at_position, group_answer, start_answer, word_count, top_count, word_group, word_start, listing, repeat_count, ends_at, listed_by, word_listed, word_table, Tells}
+use Rattle.book.specs.Questions.{at_position, group_answer, start_answer, word_count, top_count, word_group, word_start, listing, repeat_count, listed_by, word_listed, word_table, Tells}
 use Rattle.book.proofs.Growing.{tops_long, entries_long, entry_read}
 use Rattle.book.proofs.LinkingRepeats.{IsRepeat, each_repeat}
 use Rattle.book.proofs.Rows.{start_and_size}

@@ -1,20 +1,20 @@
 -- What a book holds, one word on. Assumes nothing.
-use Rattle.std.proofs.Common.{◌≡◌, ℕ, zero, suc, ◌+◌, ◌-◌, ◌<◌, ◌≤◌, List, [], ◌∷◌, ◌++◌, map, length, get_or, take, drop, sym, refl, ap, ◌∙◌, ⊎_elim, add-one, arith}
+use Rattle.std.proofs.Common.{◌≡◌, ℕ, zero, suc, ◌-◌, ◌<◌, ◌≤◌, List, [], ◌∷◌, ◌++◌, map, length, get_or, take, drop, sym, refl, ap, ◌∙◌, arith}
 use Rattle.std.specs.List.{range_with_len}
 use Rattle.std.proofs.lemmas.List.FromFn.{length-map-range_with_len, get_or-map-range_with_len, map-range_with_len_more, fill_by_all}
 use Rattle.std.proofs.lemmas.List.{length_push, map_push, take-append-le, drop-append-le, take_all, drop_all, drop-map}
 use Rattle.registers.specs.declared.pairs.Pair.{Pair}
 use Rattle.book.specs.declared.entries.Entry.{Entry}
 use Rattle.book.specs.Words.{Word}
-use Rattle.book.specs.Passages.{Passage, Row, none, ◌▹◌, count, last, without_last, size, sizes}
+use Rattle.book.specs.Passages.{Row, none, ◌▹◌, count, last, without_last, size, sizes}
 use Rattle.book.specs.Tops.{made, push, reading, tops, FormedOn, Formed, top, passage_at, start_at}
 use Rattle.book.specs.Groups.{items, entered, reached, group, groups, group_at, HeldAll, with_word, registering, registered}
 use Rattle.book.specs.Entries.{entry, group_of, groups_of}
-use Rattle.book.specs.States.{State, state, children, start_over, taken, grown}
+use Rattle.book.specs.States.{state, children, start_over, taken, grown}
 use Rattle.book.specs.Taken.{entry_at, entries_of, entries_on, state_of}
 use Rattle.book.proofs.Numbered.{Grows}
 use Rattle.book.proofs.Rows.{groups_last, sizes_reading, start_of_made}
-use Rattle.book.proofs.Exactness.{group_stands, groups_stand}
+use Rattle.book.proofs.Exactness.{group_stands}
 use Rattle.book.proofs.Entering.{grows_word, held_push, held_registered}
 use Rattle.book.proofs.Slices.{reached_is_group}
 

@@ -1,26 +1,23 @@
 -- The law of arrangements. Assumes nothing.
-use Rattle.std.proofs.Common.{◌≡◌, ℕ, suc, ◌+◌, ◌-◌, ◌*◌, ◌<◌, ◌≤◌, Bool, true, false, cond, ◌&&◌, ltb, leb, ◌⊎◌, ◌↔◌, List, [], ◌∷◌, ◌++◌, map, length, get_or, drop, Some, None, Ok, Err, Option, Result, sym, refl, ap, ◌∙◌, subst, inl, inr, ⊎_elim, arith}
-use lib.ListN as list_of
-use Rattle.std.specs.List.{AllByRecursion as All}
-use Rattle.std.proofs.lemmas.Bool.{cond-true, cond-false, ltb-true, ltb-false, leb-true, leb-false, le-leb, lt-ltb, and_from}
+use Rattle.std.proofs.Common.{◌≡◌, ℕ, suc, ◌<◌, ◌≤◌, Bool, true, false, cond, ◌&&◌, ltb, leb, ◌⊎◌, List, [], ◌∷◌, ◌++◌, length, drop, Some, None, Ok, Err, Option, sym, refl, ap, ◌∙◌, subst, inl, inr, ⊎_elim, arith}
+use Rattle.std.proofs.lemmas.Bool.{ltb-true, ltb-false, leb-true, leb-false}
 use Rattle.std.proofs.lemmas.List.{append-nil, append_assoc, length-append, length_push, take-append-le, take_at}
 use Rattle.std.proofs.ByRecursion.{All-get_or}
 use Rattle.names.specs.declared.refusals.Refusal.{Refusal}
 use Rattle.names.specs.declared.refusals.Refusal.TheVariants.{NoSuchPosition, NoSuchRepeat, TableTooShort}
 use Rattle.registers.specs.declared.pairs.Pair.{Pair}
-use Rattle.book.specs.declared.linking.Listed.{Listed}
 use Rattle.book.specs.Words.{Word}
-use Rattle.book.specs.Passages.{Row, none, size}
+use Rattle.book.specs.Passages.{Row, none}
 use Rattle.book.specs.Tops.{push, reading, FormedOn, Formed, top, passage_at}
 use Rattle.book.specs.Tops as top_of
-use Rattle.book.specs.Groups.{group, group_at, Held, with_word, registering, registered}
+use Rattle.book.specs.Groups.{group, group_at, with_word, registering, registered}
 use Rattle.book.specs.Repeats.{◌among◌, first, Repeat, SamePassage, Listing}
 use Rattle.book.specs.States.{State, fresh, answered}
 use Rattle.book.specs.Taken.{entry_at, Holds, word_refusal}
-use Rattle.book.specs.Questions.{at_position, word_group, listing, repeat_count, ends_at, listed_by, word_listed, word_table}
-use Rattle.book.specs.Arrangements.{Asked, take, read, close, reopen, words, tops, group as group', start, repeats, list, Said, taken, took, done, counted, told, listed, not_allowed, answer_to, taking_after, words_of, words_taken, answers_on, answers}
+use Rattle.book.specs.Questions.{word_group, listing, repeat_count, ends_at, listed_by, word_listed, word_table}
+use Rattle.book.specs.Arrangements.{Asked, take, read, close, reopen, words, tops, group as group', start, repeats, list, Said, taken, told, listed, answer_to, taking_after, words_of, words_taken, answers_on, answers}
 use Rattle.book.specs.Performed.{Stand, standing, Performs}
-use Rattle.book.specs.Law.{Gives, GivenOut, Lists, TellsRepeats, ListedThroughout, Law}
+use Rattle.book.specs.Law.{Gives, GivenOut, TellsRepeats, ListedThroughout, Law}
 use Rattle.book.proofs.Numbered.{Grows}
 use Rattle.book.proofs.Exactness.{group_stands, group_exact}
 use Rattle.book.proofs.Entering.{grows_registering, held_registered}

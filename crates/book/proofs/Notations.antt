@@ -1,5 +1,5 @@
 -- Postfix notations and the words that are read. Assumes nothing.
-use Rattle.std.proofs.Common.{◌≡◌, ℕ, zero, suc, ◌+◌, ◌-◌, ◌<◌, ◌≤◌, List, [], ◌∷◌, ◌++◌, length, get_or, take, drop, sym, refl, ap, ◌∙◌, arith}
+use Rattle.std.proofs.Common.{◌≡◌, ℕ, zero, suc, ◌+◌, ◌<◌, ◌≤◌, List, [], ◌∷◌, ◌++◌, length, get_or, take, drop, sym, refl, ap, ◌∙◌, arith}
 use Rattle.std.proofs.lemmas.List.{append_assoc, append-nil, length-append, length-take, drop_at}
 use Rattle.book.specs.Words.{Word}
 use Rattle.book.specs.Passages.{Passage, Row, over, none, ◌▹◌, count, last, without_last, node, postfix, postfixes, size, sizes}

@@ -1,5 +1,5 @@
 -- One call on a book, said of the words. Assumes nothing.
-use Rattle.std.proofs.Common.{◌≡◌, ℕ, Bool, true, false, List, [], ◌∷◌, ◌++◌, Some, None, Option, Result, sym, refl, ap, ◌∙◌}
+use Rattle.std.proofs.Common.{◌≡◌, ℕ, Bool, true, List, [], ◌∷◌, Some, None, Option, Result, refl, ap, ◌∙◌}
 use Rattle.std.proofs.lemmas.List.{append-nil}
 use Rattle.names.specs.declared.refusals.Fault.{Fault}
 use Rattle.names.specs.declared.refusals.Refusal.{Refusal}
@@ -7,10 +7,10 @@ use Rattle.registers.specs.declared.pairs.Pair.{Pair}
 use Rattle.book.specs.declared.linking.Listed.{Listed}
 use Rattle.book.specs.declared.readings.Reading.{Reading}
 use Rattle.book.specs.Words.{Word}
-use Rattle.book.specs.States.{State, refused, grown, unless, take_answer, after_take}
+use Rattle.book.specs.States.{State, refused, grown, unless, after_take}
 use Rattle.book.specs.Taken.{Holds, Takes}
 use Rattle.book.specs.Readings.{Placed, text_words, grown_by, takes_all, after_read, Reads}
-use Rattle.book.specs.Arrangements.{Asked, take, read, close, reopen, Said, taken, took, done, listed, answer_to, taking_after, words_of}
+use Rattle.book.specs.Arrangements.{Asked, take, read, Said, taken, took, listed, answer_to, taking_after, words_of}
 use Rattle.book.specs.Performed.{Stand, standing, Performs}
 
 -- no call changes the capacity

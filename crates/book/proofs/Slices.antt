@@ -1,5 +1,5 @@
 -- The passages of words: their group numbers and their repeats. Assumes nothing.
-use Rattle.std.proofs.Common.{◌≡◌, ℕ, ◌-◌, ◌<◌, ◌≤◌, ◌↔◌, List, [], ◌∷◌, length, sym, refl, ap, ◌∙◌}
+use Rattle.std.proofs.Common.{◌≡◌, ℕ, ◌<◌, ◌≤◌, ◌↔◌, List, [], ◌∷◌, length, sym, refl, ap, ◌∙◌}
 use Rattle.book.specs.Words.{Word}
 use Rattle.registers.specs.declared.pairs.Pair.{Pair}
 use Rattle.registers.specs.Pairs.{pair}

@@ -1,5 +1,5 @@
 -- Taking a word, said of the words. Assumes nothing.
-use Rattle.std.proofs.Common.{◌≡◌, ℕ, ◌+◌, ◌-◌, ◌<◌, ◌≤◌, Bool, true, false, List, [], ◌∷◌, ◌++◌, length, take, drop, Some, None, Ok, Err, Option, Result, sym, refl, ap, ◌∙◌, ⊎_elim, arith}
+use Rattle.std.proofs.Common.{◌≡◌, ℕ, ◌-◌, ◌<◌, ◌≤◌, Bool, true, false, List, [], ◌∷◌, ◌++◌, length, take, drop, Some, None, Ok, Err, Option, Result, sym, refl, ap, ◌∙◌, ⊎_elim, arith}
 use Rattle.std.proofs.lemmas.Bool.{cond-true, cond-false, lt-ltb, le-ltb, le-leb, lt-leb, cases_lt}
 use Rattle.std.proofs.lemmas.List.{append-nil, take_rest}
 use Rattle.names.specs.declared.refusals.Refusal.{Refusal}
@@ -13,7 +13,7 @@ use Rattle.book.specs.declared.entries.Entry.{Entry}
 use Rattle.book.specs.Groups.{items, entered, reached, registered, Enters}
 use Rattle.book.specs.Entries.{entry, groups_of}
 use Rattle.book.specs.States.{State, state, fresh, children, start_over, needs, refusal, refused, taken, grown, answered, unless, take_answer, after_take}
-use Rattle.book.specs.Taken.{entry_at, entries_of, entries_on, state_of, Holds, word_refusal, word_answer, added_by, Takes}
+use Rattle.book.specs.Taken.{entry_at, entries_of, state_of, Holds, word_refusal, added_by, Takes}
 use Rattle.book.proofs.Growing.{same_state, tops_long, entries_long, formed_push, taken_push, grown_push}
 
 -- when a word is refused

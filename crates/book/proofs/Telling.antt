@@ -1,5 +1,5 @@
 -- Reading a text, said of the words. Assumes nothing.
-use Rattle.std.proofs.Common.{◌≡◌, ℕ, suc, ◌+◌, ◌-◌, ◌<◌, ◌≤◌, Bool, true, false, cond, ltb, List, [], ◌∷◌, ◌++◌, map, length, Some, None, Ok, Err, filter, Option, Result, sym, refl, ap, ◌∙◌, arith}
+use Rattle.std.proofs.Common.{◌≡◌, ℕ, suc, ◌+◌, ◌≤◌, Bool, true, false, cond, ltb, List, [], ◌∷◌, ◌++◌, map, length, Some, None, Ok, Err, filter, Option, Result, sym, refl, ap, ◌∙◌, arith}
 use Rattle.std.proofs.lemmas.Bool.{cond-true, cond-false, lt-ltb, le-ltb}
 use Rattle.std.proofs.lemmas.List.{append-nil, append_assoc, length_push}
 use Rattle.names.specs.declared.pitches.Naming.{Naming}
@@ -15,8 +15,8 @@ use Rattle.registers.specs.declared.pairs.Pair.{Pair}
 use Rattle.book.specs.declared.readings.Reading.{Reading}
 use Rattle.book.specs.Words.{Word}
 use Rattle.book.specs.States.{State, refused, grown, take_answer, after_take, answered, unless, taken}
-use Rattle.book.specs.Taken.{Holds, word_refusal, added_by}
-use Rattle.book.specs.Readings.{word_of, Placed, placing, placed, said_of, text_words, words_added, fault_at, faulting, first_fault, read_as, reading_answer, told_as, told_answer, after_told, stops, grown_by, takes_all, read_answer, after_read, Reads}
+use Rattle.book.specs.Taken.{Holds, word_refusal}
+use Rattle.book.specs.Readings.{word_of, Placed, placing, placed, said_of, text_words, words_added, fault_at, faulting, first_fault, read_as, told_as, told_answer, after_told, stops, grown_by, takes_all, read_answer, after_read, Reads}
 use Rattle.book.proofs.Takings.{refused_as, grown_as}
 
 -- Tokens begin one behind another, and the fault that stops them behind them all.

@@ -1,5 +1,5 @@
 -- Arrangements of calls on one book, and what each call answers. Assumes nothing.
-use Rattle.std.specs.Prelude.{ℕ, Bool, true, false, List, [], ◌∷◌, ◌++◌, map, length, Result}
+use Rattle.std.specs.Prelude.{ℕ, Bool, true, false, List, [], ◌∷◌, ◌++◌, length, Result}
 use Rattle.names.specs.declared.refusals.Fault.{Fault}
 use Rattle.names.specs.declared.refusals.Refusal.{Refusal}
 use Rattle.registers.specs.declared.pairs.Pair.{Pair}

@@ -1,5 +1,5 @@
 -- What calls and answers of the code are. Assumes nothing.
-use Rattle.std.specs.Prelude.{List, vec_items}
+use Rattle.std.specs.Prelude.{vec_items}
 use Rattle.book.specs.declared.calls.Call.{Call}
 use Rattle.book.specs.declared.calls.Call.TheVariants as call
 use Rattle.book.specs.declared.calls.Answer.{Answer}

@@ -3,7 +3,6 @@
 -- a repeat and a listing in Repeats.antt; a register's numbers of pairs in Groups.antt.
 use Rattle.std.specs.Prelude.{◌≡◌, ℕ, ◌+◌, ◌*◌, ◌<◌, ◌≤◌, ◌⊎◌, ◌↔◌, List, [], ◌∷◌, ◌++◌, length, drop, Ok, Err, slice_index_or}
 use Rattle.std.proofs.Math.ListN as list_of
-use Rattle.names.specs.declared.refusals.Refusal.{Refusal}
 use Rattle.names.specs.declared.refusals.Refusal.TheVariants.{NoSuchRepeat, TableTooShort}
 use Rattle.registers.specs.declared.pairs.Pair.{Pair}
 use Rattle.book.specs.declared.linking.Listed.{Listed}
@@ -71,7 +70,7 @@ GivenOut n (c ∷ cs) (a ∷ said) p g = Gives n c a p g ⊎ GivenOut (n + lengt
 pub record Lists (ws : List Word) (es before : List ℕ) (l : Listed) (after : List ℕ) : Type 0 where
   pub ends : after ≡ es ++ drop (length es) before
   pub count : l.count ≡ length es
-  pub size : l.size ≡ size (top.passage-at ws (first es))
+  pub size : l.size ≡ size (top.passage_at ws (first es))
 
 abbrev pub OnRepeats : List (List ℕ) → Said → Type 0
 OnRepeats ls (taken r) = ⊥

@@ -1,5 +1,6 @@
 -- One call on a book in one of its two states. Assumes nothing.
 use Rattle.std.specs.Prelude.{◌≡◌, ℕ, Bool, true, false, List, ◌++◌}
+use Rattle.registers.specs.declared.meaning.Register.{Ghosts}
 use Rattle.registers.specs.declared.pairs.Pair.{Pair}
 use Rattle.book.specs.declared.arrangement.Book.{Book}
 use Rattle.book.specs.declared.arrangement.Book.TheVariants.{Taking, Closed}
@@ -17,8 +18,8 @@ pub record Stand : Type 0 where
 abbrev pub standing : State → Bool → Stand
 standing s b = record { held = s; taking = b }
 
-module _ {R : Type 0} (pairs : R → List Pair) (room : R → ℕ) where
-  abbrev pub stand_of : Book R → Stand
+module _ {R : Type 0} {g : Ghosts R} (pairs : R → List Pair) (room : R → ℕ) where
+  abbrev pub stand_of : Book R g → Stand
   stand_of (Taking b) = standing (taking_state pairs room b) true
   stand_of (Closed b) = standing (closed_state pairs room b) false
 

@@ -1,10 +1,10 @@
 -- The words of a text under a reading, and what reading it does to a book. Assumes nothing.
-use Rattle.std.specs.Prelude.{◌≡◌, ℕ, cond, List, [], ◌∷◌, ◌++◌, map, length, Some, None, Ok, Err, filter, Option, Result, nat_lt}
+use Rattle.std.specs.Prelude.{◌≡◌, ℕ, List, [], ◌∷◌, ◌++◌, map, length, Some, None, Ok, Err, filter, Option, Result, nat_lt}
 use Rattle.names.specs.declared.pitches.Pitch.{Pitch}
 use Rattle.names.specs.declared.refusals.Fault.{Fault}
 use Rattle.names.specs.declared.refusals.Refusal.{Refusal}
 use Rattle.names.specs.Tokens.{Said, naming, syllable, note, rest, frame}
-use Rattle.names.specs.Texts.{Told, Telling, text_told}
+use Rattle.names.specs.Texts.{Told, text_told}
 use Rattle.registers.specs.declared.pairs.Pair.{Pair}
 use Rattle.book.specs.declared.readings.Reading.{Reading}
 use Rattle.book.specs.declared.readings.Reading.TheVariants.{Written, Sounding, Bare}

@@ -22,7 +22,7 @@ fn perform_taking<R: Register, N: Takable + Drop>(
     mut book: TakingBook<R>,
     call: Call<N>,
 ) -> (Book<R>, Answer)
-    ensures { Performs (standing (taking_state pairs room book) true) (stand_of pairs room result.0) (asked says call.entry) (said result.1) }
+    ensures { Performs (standing (taking_state R.pairs R.room book) true) (stand_of R.pairs R.room result.0) (asked N.says call.entry) (said result.1) }
 {
     match call {
         Call::Take(word) => {
@@ -61,7 +61,7 @@ fn perform_closed<R: Register, N: Takable + Drop>(
     book: ClosedBook<R>,
     call: Call<N>,
 ) -> (Book<R>, Answer)
-    ensures { Performs (standing (closed_state pairs room book) false) (stand_of pairs room result.0) (asked says call.entry) (said result.1) }
+    ensures { Performs (standing (closed_state R.pairs R.room book) false) (stand_of R.pairs R.room result.0) (asked N.says call.entry) (said result.1) }
 {
     match call {
         Call::Reopen => (Book::Taking(book.reopen()), Answer::Done),
@@ -97,7 +97,7 @@ fn perform_closed<R: Register, N: Takable + Drop>(
 
 // One call on a book in either state.
 fn perform<R: Register, N: Takable + Drop>(book: Book<R>, call: Call<N>) -> (Book<R>, Answer)
-    ensures { Performs (stand_of pairs room book) (stand_of pairs room result.0) (asked says call.entry) (said result.1) }
+    ensures { Performs (stand_of R.pairs R.room book) (stand_of R.pairs R.room result.0) (asked N.says call.entry) (said result.1) }
 {
     match book {
         Book::Taking(taking) => perform_taking(taking, call),
@@ -107,8 +107,8 @@ fn perform<R: Register, N: Takable + Drop>(book: Book<R>, call: Call<N>) -> (Boo
 
 impl<R: Register> Book<R> {
     fn into_register(self) -> R
-        ensures pairs { pairs result ≡ (stand_of pairs room self).held.pairs }
-        ensures room { room result ≡ (stand_of pairs room self).held.room }
+        ensures pairs { R.pairs result ≡ (stand_of R.pairs R.room self).held.pairs }
+        ensures room { R.room result ≡ (stand_of R.pairs R.room self).held.room }
     {
         match self {
             Book::Taking(taking) => taking.close().into_register(),
@@ -124,7 +124,7 @@ pub fn perform_all<R: Register, N: Takable + Copy + Drop>(
     register: R,
     calls: Vec<Call<N>>,
 ) -> Result<(R, Vec<Answer>), R>
-    ensures { MatchResult result (λ x. Law (pairs register) (room register) (map (asked says) calls.entry.items) (map said x.1.items) (pairs x.0) × (room x.0 ≡ room register)) (λ back. back ≡ register) }
+    ensures { MatchResult result (λ x. Law (R.pairs register) (R.room register) (map (asked N.says) calls.entry.items) (map said x.1.items) (R.pairs x.0) × (R.room x.0 ≡ R.room register)) (λ back. back ≡ register) }
 {
     let Ok(mut answers) = Vec::with_capacity(heap, calls.len()) else {
         return Err(register);

@@ -11,10 +11,10 @@ use registers::{Pair, Register};
 
 // Enters one item where there is a place for its pair.
 fn enter<R: Register>(register: &mut R, number: u32, item: u32) -> u32
-    requires { length (pairs register.old) < room register.old }
-    ensures answer { result ≡ number_of (hold (pairs register.old) (pair number item)) (pair number item) }
-    ensures after { pairs register.new ≡ hold (pairs register.old) (pair number item) }
-    ensures same { room register.new ≡ room register.old }
+    requires { length (R.pairs register.old) < R.room register.old }
+    ensures answer { result ≡ number_of (hold (R.pairs register.old) (pair number item)) (pair number item) }
+    ensures after { R.pairs register.new ≡ hold (R.pairs register.old) (pair number item) }
+    ensures same { R.room register.new ≡ R.room register.old }
 {
     let pair = Pair {
         first: number,
@@ -25,9 +25,9 @@ fn enter<R: Register>(register: &mut R, number: u32, item: u32) -> u32
 
 // Enters a label's spelling, whose first number is that of its kind.
 fn enter_spelling<R: Register, L: Label>(register: &mut R, number: u32, label: &L) -> u32
-    requires { length (pairs register.old) + length (spelling label.now) ≤ room register.old }
-    ensures enters { Enters (pairs register.old) number (spelling label.now) (pairs register.new) result }
-    ensures same { room register.new ≡ room register.old }
+    requires { length (R.pairs register.old) + length (L.spelling label.now) ≤ R.room register.old }
+    ensures enters { Enters (R.pairs register.old) number (L.spelling label.now) (R.pairs register.new) result }
+    ensures same { R.room register.new ≡ R.room register.old }
 {
     let mut number = enter(register, number, L::kind_number() as u32);
     for place in 1..label.spelled_len() {
@@ -38,9 +38,9 @@ fn enter_spelling<R: Register, L: Label>(register: &mut R, number: u32, label: &
 
 // Enters the group numbers of a word's children.
 fn enter_children<R: Register>(register: &mut R, number: u32, children: &[Entry]) -> u32
-    requires { length (pairs register.old) + length children.now ≤ room register.old }
-    ensures enters { Enters (pairs register.old) number (groups_of children.now) (pairs register.new) result }
-    ensures same { room register.new ≡ room register.old }
+    requires { length (R.pairs register.old) + length children.now ≤ R.room register.old }
+    ensures enters { Enters (R.pairs register.old) number (groups_of children.now) (R.pairs register.new) result }
+    ensures same { R.room register.new ≡ R.room register.old }
 {
     let mut number = number;
     for child in children {
@@ -56,9 +56,9 @@ pub(crate) fn number_word<R: Register, L: Label>(
     rank: u8,
     children: &[Entry],
 ) -> u32
-    requires { length (pairs register.old) + (2 + length (spelling label.now) + length children.now) ≤ room register.old }
-    ensures enters { Enters (pairs register.old) 0 (items (word rank (spelling label.now)) (groups_of children.now)) (pairs register.new) result }
-    ensures same { room register.new ≡ room register.old }
+    requires { length (R.pairs register.old) + (2 + length (L.spelling label.now) + length children.now) ≤ R.room register.old }
+    ensures enters { Enters (R.pairs register.old) 0 (items (word rank (L.spelling label.now)) (groups_of children.now)) (R.pairs register.new) result }
+    ensures same { R.room register.new ≡ R.room register.old }
     ensures low { result ≤ 32768 }
 {
     let ranked = enter(register, 0, rank as u32);

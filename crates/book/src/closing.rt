@@ -26,9 +26,9 @@ impl Index {
 impl<R: Register> TakingBook<R> {
     // A book without words over the register, which is handed back where memory is wanting.
     pub fn new(heap: Global, register: R) -> Result<TakingBook<R>, R>
-        ensures value { MatchResult result (λ b. taking_state pairs room b ≡ fresh (pairs register) (room register)) (λ back. back ≡ register) }
+        ensures value { MatchResult result (λ b. taking_state R.pairs R.room b ≡ fresh (R.pairs register) (R.room register)) (λ back. back ≡ register) }
         ensures laws { PassageLaws }
-        ensures holds { IfOk result (λ b. Holds (pairs register) [] (taking_state pairs room b)) }
+        ensures holds { IfOk result (λ b. Holds (R.pairs register) [] (taking_state R.pairs R.room b)) }
     {
         let Ok(entries) = Vec::with_capacity(heap, MOST_WORDS) else {
             return Err(register);
@@ -49,7 +49,7 @@ impl<R: Register> TakingBook<R> {
 
     // Closes the book: one pass links its words, one gathers its repeats.
     pub fn close(self) -> ClosedBook<R>
-        ensures { closed_state pairs room result ≡ taking_state pairs room self }
+        ensures { closed_state R.pairs R.room result ≡ taking_state R.pairs R.room self }
     {
         let TakingBook {
             register,
@@ -84,7 +84,7 @@ impl<R: Register> TakingBook<R> {
 impl<R: Register> ClosedBook<R> {
     // Opens the book again, to take more words.
     pub fn reopen(self) -> TakingBook<R>
-        ensures { taking_state pairs room result ≡ closed_state pairs room self }
+        ensures { taking_state R.pairs R.room result ≡ closed_state R.pairs R.room self }
     {
         let ClosedBook {
             register,

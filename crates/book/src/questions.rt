@@ -45,32 +45,32 @@ fn start_at(entries: &[Entry], position: u32) -> Result<u32, Refusal>
 impl<R: Register> TakingBook<R> {
     // How many words it has taken.
     pub fn words(&self) -> u32
-        ensures value { result ≡ length (taking_state pairs room self.now).entries }
-        ensures tells { Tells (taking_state pairs room self.now) result word_count }
+        ensures value { result ≡ length (taking_state R.pairs R.room self.now).entries }
+        ensures tells { Tells (taking_state R.pairs R.room self.now) result word_count }
     {
         count(self.entries.as_slice())
     }
 
     // How many top passages these make.
     pub fn tops(&self) -> u32
-        ensures value { result ≡ length (taking_state pairs room self.now).tops }
-        ensures tells { Tells (taking_state pairs room self.now) result top_count }
+        ensures value { result ≡ length (taking_state R.pairs R.room self.now).tops }
+        ensures tells { Tells (taking_state R.pairs R.room self.now) result top_count }
     {
         count(self.tops.as_slice())
     }
 
     // The group number of the passage that ends at the position.
     pub fn group(&self, position: u32) -> Result<u32, Refusal>
-        ensures value { result ≡ group_answer (taking_state pairs room self.now) position }
-        ensures tells { Tells (taking_state pairs room self.now) result (word_group position) }
+        ensures value { result ≡ group_answer (taking_state R.pairs R.room self.now) position }
+        ensures tells { Tells (taking_state R.pairs R.room self.now) result (word_group position) }
     {
         group_at(self.entries.as_slice(), position)
     }
 
     // The position of that passage's first leaf.
     pub fn start(&self, position: u32) -> Result<u32, Refusal>
-        ensures value { result ≡ start_answer (taking_state pairs room self.now) position }
-        ensures tells { Tells (taking_state pairs room self.now) result (word_start position) }
+        ensures value { result ≡ start_answer (taking_state R.pairs R.room self.now) position }
+        ensures tells { Tells (taking_state R.pairs R.room self.now) result (word_start position) }
     {
         start_at(self.entries.as_slice(), position)
     }
@@ -79,50 +79,50 @@ impl<R: Register> TakingBook<R> {
 impl<R: Register> ClosedBook<R> {
     // How many words it has taken.
     pub fn words(&self) -> u32
-        ensures value { result ≡ length (closed_state pairs room self.now).entries }
-        ensures tells { Tells (closed_state pairs room self.now) result word_count }
+        ensures value { result ≡ length (closed_state R.pairs R.room self.now).entries }
+        ensures tells { Tells (closed_state R.pairs R.room self.now) result word_count }
     {
         count(self.entries.as_slice())
     }
 
     // How many top passages these make.
     pub fn tops(&self) -> u32
-        ensures value { result ≡ length (closed_state pairs room self.now).tops }
-        ensures tells { Tells (closed_state pairs room self.now) result top_count }
+        ensures value { result ≡ length (closed_state R.pairs R.room self.now).tops }
+        ensures tells { Tells (closed_state R.pairs R.room self.now) result top_count }
     {
         count(self.tops.as_slice())
     }
 
     // The group number of the passage that ends at the position.
     pub fn group(&self, position: u32) -> Result<u32, Refusal>
-        ensures value { result ≡ group_answer (closed_state pairs room self.now) position }
-        ensures tells { Tells (closed_state pairs room self.now) result (word_group position) }
+        ensures value { result ≡ group_answer (closed_state R.pairs R.room self.now) position }
+        ensures tells { Tells (closed_state R.pairs R.room self.now) result (word_group position) }
     {
         group_at(self.entries.as_slice(), position)
     }
 
     // The position of that passage's first leaf.
     pub fn start(&self, position: u32) -> Result<u32, Refusal>
-        ensures value { result ≡ start_answer (closed_state pairs room self.now) position }
-        ensures tells { Tells (closed_state pairs room self.now) result (word_start position) }
+        ensures value { result ≡ start_answer (closed_state R.pairs R.room self.now) position }
+        ensures tells { Tells (closed_state R.pairs R.room self.now) result (word_start position) }
     {
         start_at(self.entries.as_slice(), position)
     }
 
     // How many repeats there are.
     pub fn repeats(&self) -> u32
-        ensures value { result ≡ length (repeats_of (closed_state pairs room self.now).entries) }
-        ensures tells { Tells (closed_state pairs room self.now) result repeat_count }
+        ensures value { result ≡ length (repeats_of (closed_state R.pairs R.room self.now).entries) }
+        ensures tells { Tells (closed_state R.pairs R.room self.now) result repeat_count }
     {
         count(self.index.firsts.as_slice())
     }
 
     // Lists repeat k: its group number, its size and the count of its ends, all of which the table then begins with, rising.
     pub fn list(&self, k: u32, table: &mut [u32]) -> Result<Listed, Refusal>
-        ensures answer { result ≡ listed_answer (closed_state pairs room self.now).entries k (length table.old) }
-        ensures table { table.new ≡ listed_table (closed_state pairs room self.now).entries k table.old }
-        ensures lists { Tells (closed_state pairs room self.now) result (word_listed k (length table.old)) }
-        ensures fills { Tells (closed_state pairs room self.now) table.new (word_table k table.old) }
+        ensures answer { result ≡ listed_answer (closed_state R.pairs R.room self.now).entries k (length table.old) }
+        ensures table { table.new ≡ listed_table (closed_state R.pairs R.room self.now).entries k table.old }
+        ensures lists { Tells (closed_state R.pairs R.room self.now) result (word_listed k (length table.old)) }
+        ensures fills { Tells (closed_state R.pairs R.room self.now) table.new (word_table k table.old) }
     {
         list_repeat(
             self.entries.as_slice(),

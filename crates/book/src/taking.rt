@@ -14,7 +14,7 @@ use registers::Register;
 
 // Whether the register has a place for each item of a word.
 fn has_places<R: Register, L: Label>(register: &R, label: &L, rank: u8) -> bool
-    ensures { result ≡ nat_le (needs (word rank (spelling label.now))) (room register.now - length (pairs register.now)) }
+    ensures { result ≡ nat_le (needs (word rank (L.spelling label.now))) (R.room register.now - length (R.pairs register.now)) }
 {
     let free = register.capacity() - register.count();
     let most = 2 + L::longest_spelling() as u32 + rank as u32;
@@ -34,9 +34,9 @@ fn start_of(children: &[Entry], position: u32) -> u32
 impl<R: Register> TakingBook<R> {
     // Takes a word: its group number and its passage's start.
     pub fn take<L: Label>(&mut self, label: &L, rank: u8) -> Result<(u32, u32), Refusal>
-        ensures answer { result ≡ take_answer (taking_state pairs room self.old) (word rank (spelling label.now)) }
-        ensures after { taking_state pairs room self.new ≡ after_take (taking_state pairs room self.old) (word rank (spelling label.now)) }
-        ensures takes { Takes (taking_state pairs room self.old) (taking_state pairs room self.new) (word rank (spelling label.now)) result }
+        ensures answer { result ≡ take_answer (taking_state R.pairs R.room self.old) (word rank (L.spelling label.now)) }
+        ensures after { taking_state R.pairs R.room self.new ≡ after_take (taking_state R.pairs R.room self.old) (word rank (L.spelling label.now)) }
+        ensures takes { Takes (taking_state R.pairs R.room self.old) (taking_state R.pairs R.room self.new) (word rank (L.spelling label.now)) result }
     {
         if let Some(refusal) = self.why_refused(label, rank) {
             return Err(refusal);
@@ -47,7 +47,7 @@ impl<R: Register> TakingBook<R> {
 
     // The first reason to refuse a word.
     fn why_refused<L: Label>(&self, label: &L, rank: u8) -> Option<Refusal>
-        ensures { result ≡ refused (taking_state pairs room self.now) (word rank (spelling label.now)) }
+        ensures { result ≡ refused (taking_state R.pairs R.room self.now) (word rank (L.spelling label.now)) }
     {
         if rank as usize > self.tops.len() {
             return Some(Refusal::RankAboveTops);
@@ -65,9 +65,9 @@ impl<R: Register> TakingBook<R> {
     fn grow<L: Label>(&mut self, label: &L, rank: u8) -> Entry
         requires ranked { rank ≤ vec_len self.old.tops }
         requires few { vec_len self.old.entries < 4096 }
-        requires free { length (pairs self.old.register) + needs (word rank (spelling label.now)) ≤ room self.old.register }
-        ensures answer { result ≡ taken (taking_state pairs room self.old) (word rank (spelling label.now)) }
-        ensures after { taking_state pairs room self.new ≡ grown (taking_state pairs room self.old) (word rank (spelling label.now)) }
+        requires free { length (R.pairs self.old.register) + needs (word rank (L.spelling label.now)) ≤ R.room self.old.register }
+        ensures answer { result ≡ taken (taking_state R.pairs R.room self.old) (word rank (L.spelling label.now)) }
+        ensures after { taking_state R.pairs R.room self.new ≡ grown (taking_state R.pairs R.room self.old) (word rank (L.spelling label.now)) }
     {
         let first = self.tops.len() - rank as usize;
         let start = start_of(&self.tops.as_slice()[first..], self.entries.len() as u32);

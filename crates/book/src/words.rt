@@ -18,9 +18,9 @@ pub trait Takable {
 
     // Takes the word into a book.
     fn take_into<R: Register>(&self, book: &mut TakingBook<R>) -> Result<(u32, u32), Refusal>
-        ensures answer { result ≡ take_answer (taking_state R.Register.pairs R.Register.room book.old) (says self.now) }
-        ensures after { taking_state R.Register.pairs R.Register.room book.new ≡ after_take (taking_state R.Register.pairs R.Register.room book.old) (says self.now) }
-        ensures takes { Takes (taking_state R.Register.pairs R.Register.room book.old) (taking_state R.Register.pairs R.Register.room book.new) (says self.now) result };
+        ensures answer { result ≡ take_answer (taking_state R.pairs R.room book.old) (says self.now) }
+        ensures after { taking_state R.pairs R.room book.new ≡ after_take (taking_state R.pairs R.room book.old) (says self.now) }
+        ensures takes { Takes (taking_state R.pairs R.room book.old) (taking_state R.pairs R.room book.new) (says self.now) result };
 }
 
 // A label and a rank.
@@ -31,7 +31,7 @@ pub struct Node<L> {
 }
 
 impl<L: Label> Takable for Node<L> {
-    ghost says = { λ n. word n.rank (L.Label.spelling n.label) };
+    ghost says = { λ n. word n.rank (L.spelling n.label) };
 
     fn take_into<R: Register>(&self, book: &mut TakingBook<R>) -> Result<(u32, u32), Refusal> {
         book.take(&self.label, self.rank)
@@ -46,7 +46,7 @@ pub enum Either<A, B> {
 }
 
 impl<A: Takable, B: Takable> Takable for Either<A, B> {
-    ghost says = { λ e. elim e [ First a ↦ A.Takable.says a | Second b ↦ B.Takable.says b ] };
+    ghost says = { λ e. elim e [ First a ↦ A.says a | Second b ↦ B.says b ] };
 
     fn take_into<R: Register>(&self, book: &mut TakingBook<R>) -> Result<(u32, u32), Refusal> {
         match self {

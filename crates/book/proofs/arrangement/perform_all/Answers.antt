@@ -1,4 +1,4 @@
-use Rattle.std.proofs.Common.{◌≡◌, true, map, length, vec_items, sym, refl, ap, ◌∙◌, arith}
+use Rattle.std.proofs.Common.{true, map, length, vec_items, ap, ◌∙◌, arith}
 use Rattle.std.proofs.lemmas.List.{map_push, nil_from_length}
 use Rattle.std.specs.Vec.Iter.{into_iter_items}
 use Rattle.book.specs.Calls.{asked, said}
@@ -10,7 +10,7 @@ use Rattle.book.proofs.arrangement.perform_all.Goals as goal
 pub loop-call-init : goal.loop-call-init
 loop-call-init g c =
     let v = c.in-Ok.ensures in
-    let items = ap length c.into_iter-call-iterator.ensures.into_iter-gives.0 in
+    let items = ap length c.into_iter-call-iterator.ensures.into_iter_gives.0 in
     (tt, tt, going_from _ _ _ _ c.in-Ok-new.ensures.value c.in-Ok-new.ensures.holds (ap (map said) v.items), omega (arith, items, v.len, v.capacity, c.len.ensures, c.args.calls.ok.0))
 
 pub loop-call-preserved : goal.loop-call-preserved
@@ -32,6 +32,6 @@ returns g c =
     let i = c.loop-call.invariant in
     let new = c.in-Ok-new.ensures.value in
     let over = nil_from_length (into_iter_items c.loop-call.call-iterator) (omega (arith, c.in-None.ensures.steps.0, c.loop-call.call-iterator.rest.ok)) in
-    let calls = c.into_iter-call-iterator.ensures.into_iter-gives.0 in
+    let calls = c.into_iter-call-iterator.ensures.into_iter_gives.0 in
     let end = going_end _ _ _ _ _ _ _ _ (ap (λ (s : State). standing s true) new) i.2 (ap (map (asked g.N.Takable.says)) over) c.into_register.ensures.pairs in
     (rw (ap (map (asked g.N.Takable.says)) calls) at end.0, c.into_register.ensures.room ∙ end.1)

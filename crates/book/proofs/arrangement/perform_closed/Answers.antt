@@ -1,9 +1,9 @@
-use Rattle.std.proofs.Common.{◌≡◌, true, false, length, vec_items, sym, refl, ap, ◌∙◌, arith}
+use Rattle.std.proofs.Common.{true, false, length, vec_items, refl, ap, ◌∙◌, arith}
 use Rattle.std.proofs.lemmas.List.{with_items_is}
-use Rattle.book.specs.Arrangements.{take, read, close, reopen, words, tops, group, start, repeats, list, counted, told, done, not_allowed}
+use Rattle.book.specs.Arrangements.{take, read, reopen, words, tops, group, start, repeats, list, counted, told, done, not_allowed}
 use Rattle.book.specs.Calls.{asked}
 use Rattle.book.specs.Questions.{word_listed, word_table}
-use Rattle.book.proofs.Performing.{performs_as, performs_take, performs_read, performs_kept, listing_same}
+use Rattle.book.proofs.Performing.{performs_as, performs_kept, listing_same}
 use Rattle.book.proofs.arrangement.perform_closed.Goals as goal
 
 pub returns-in-Reopen : goal.returns-in-Reopen

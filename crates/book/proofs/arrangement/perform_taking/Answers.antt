@@ -1,9 +1,7 @@
-use Rattle.std.proofs.Common.{◌≡◌, true, false, length, vec_items, sym, refl, ap, ◌∙◌, arith}
-use Rattle.std.proofs.lemmas.List.{with_items_is}
-use Rattle.book.specs.Arrangements.{take, read, close, reopen, words, tops, group, start, repeats, list, counted, told, done, not_allowed}
+use Rattle.std.proofs.Common.{true, false, refl, ap}
+use Rattle.book.specs.Arrangements.{close, reopen, words, tops, group, start, repeats, counted, told, done, not_allowed}
 use Rattle.book.specs.Calls.{asked}
-use Rattle.book.specs.Questions.{word_listed, word_table}
-use Rattle.book.proofs.Performing.{performs_as, performs_take, performs_read, performs_kept, listing_same}
+use Rattle.book.proofs.Performing.{performs_as, performs_take, performs_read, performs_kept}
 use Rattle.book.proofs.arrangement.perform_taking.Goals as goal
 
 pub returns-in-Take : goal.returns-in-Take

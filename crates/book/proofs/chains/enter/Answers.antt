@@ -1,4 +1,4 @@
-use Rattle.std.proofs.Common.{◌≡◌, is_some, sym, ap, ◌∙◌}
+use Rattle.std.proofs.Common.{is_some, sym, ap, ◌∙◌}
 use Rattle.registers.specs.Pairs.{pair}
 use Rattle.book.proofs.Along.{numbered_in_room, some_same}
 use Rattle.book.proofs.Numbered.{hold_in_room}

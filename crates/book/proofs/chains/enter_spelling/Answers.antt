@@ -1,6 +1,5 @@
-use Rattle.std.proofs.Common.{◌≡◌, ◌+◌, ◌-◌, [], ◌∷◌, get_or, drop, sym, ap, ◌∙◌, arith, length-drop}
+use Rattle.std.proofs.Common.{◌≡◌, ◌+◌, ◌-◌, get_or, sym, ap, ◌∙◌, arith, length-drop}
 use Rattle.std.proofs.lemmas.List.{get_or-drop}
-use Rattle.book.specs.Groups.{Enters}
 use Rattle.book.proofs.Along.{along_none, along_more, along_all, enters_one, enters_first, enters_length}
 use Rattle.book.proofs.chains.enter_spelling.Goals as goal
 

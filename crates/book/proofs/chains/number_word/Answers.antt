@@ -1,4 +1,4 @@
-use Rattle.std.proofs.Common.{◌≡◌, [], ◌∷◌, sym, ap, ◌∙◌, arith}
+use Rattle.std.proofs.Common.{◌∙◌, arith}
 use Rattle.book.proofs.Along.{enters_one, enters_append, enters_length, enters_within}
 use Rattle.book.proofs.chains.number_word.Goals as goal
 

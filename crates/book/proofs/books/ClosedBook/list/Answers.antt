@@ -1,4 +1,4 @@
-use Rattle.std.proofs.Common.{◌≡◌, length, vec_items, ap, ◌∙◌, arith}
+use Rattle.std.proofs.Common.{length, ap, ◌∙◌}
 use Rattle.book.specs.Books.{closed_state}
 use Rattle.book.specs.Linking.{listed_answer, listed_table}
 use Rattle.book.proofs.Asking.{tells_listed, tells_table}

@@ -1,4 +1,4 @@
-use Rattle.std.proofs.Common.{◌≡◌, ◌-◌, ◌≤◌, [], ◌∷◌, ◌++◌, length, take, drop, vec_items, vec_len, sym, ap, ◌∙◌, arith}
+use Rattle.std.proofs.Common.{◌≡◌, ◌-◌, ◌≤◌, [], ◌∷◌, ◌++◌, length, take, drop, vec_items, vec_len, ap, ◌∙◌, arith}
 use Rattle.std.proofs.lemmas.List.{take_rest}
 use Rattle.book.specs.Entries.{entry}
 use Rattle.book.specs.States.{start_over}
@@ -20,25 +20,16 @@ invariant_of-self g c =
     let start' : c.start_of-start.result ≤ length (vec_items s.entries) = omega (arith, s.entries.ok.0, start) in
     let pushed = c.push_reserved-2.ensures in
     let topped = c.push_reserved.ensures in
-    let cut = c.truncate.ensures in (
-      omega (arith, pushed.len, c.requires.few),
-      (
-        omega (arith, pushed.len, topped.len, cut.len, s.fewer),
-        (
-          omega (arith, pushed.capacity, s.reserved),
-          (
-            omega (arith, topped.capacity, cut.capacity, s.stacked),
-            (
-              numbered_push _ _ e s.numbered c.number_word-group.ensures.low pushed.items,
-              (
-                started_push _ _ e s.started start' pushed.items,
-                (within_push ts _ e (vec_len s.entries) _ first fits s.within start pushed.len (topped.items ∙ ap (λ l. l ++ e ∷ []) cut.items), tt),
-              ),
-            ),
-          ),
-        ),
-      ),
-    )
+    let cut = c.truncate.ensures in
+    record {
+      few = omega (arith, pushed.len, c.requires.few);
+      fewer = omega (arith, pushed.len, topped.len, cut.len, s.fewer);
+      reserved = omega (arith, pushed.capacity, s.reserved);
+      stacked = omega (arith, topped.capacity, cut.capacity, s.stacked);
+      numbered = numbered_push _ _ e s.numbered c.number_word-group.ensures.low pushed.items;
+      started = started_push _ _ e s.started start' pushed.items;
+      within = within_push ts _ e (vec_len s.entries) _ first fits s.within start pushed.len (topped.items ∙ ap (λ l. l ++ e ∷ []) cut.items);
+    }
 
 pub returns : goal.returns
 returns g c =

@@ -1,4 +1,4 @@
-use Rattle.std.proofs.Common.{◌≡◌, refl}
+use Rattle.std.proofs.Common.{refl}
 use Rattle.book.proofs.Laws.{passage_laws}
 use Rattle.book.proofs.Takings.{fresh_is, fresh_holds}
 use Rattle.book.proofs.books.TakingBook.new.Goals as goal

@@ -1,4 +1,4 @@
-use Rattle.std.proofs.Common.{Some, sym, ap, ◌∙◌}
+use Rattle.std.proofs.Common.{ap}
 use Rattle.book.specs.Books.{taking_state}
 use Rattle.book.specs.Readings.{spelled_in}
 use Rattle.book.specs.Words.{word}

@@ -1,4 +1,4 @@
-use Rattle.std.proofs.Common.{◌-◌, ◌<◌, ◌≤◌, length, vec_items, sym, arith}
+use Rattle.std.proofs.Common.{sym, arith}
 use Rattle.std.proofs.lemmas.Bool.{leb-true, leb-false}
 use Rattle.book.proofs.Takings.{refused_rank, refused_words, refused_room, refused_not}
 use Rattle.book.proofs.books.TakingBook.why_refused.Goals as goal
@@ -6,8 +6,8 @@ use Rattle.book.proofs.books.TakingBook.why_refused.Goals as goal
 pub returns-then-rank-len : goal.returns-then-rank-len
 returns-then-rank-len g c = let s = c.args.self.now in sym (refused_rank _ _ _ _ (omega (arith, s.tops.ok.0)))
 
-pub returns-then-len-ge-MOST-WORDS : goal.returns-then-len-ge-MOST-WORDS
-returns-then-len-ge-MOST-WORDS g c = let s = c.args.self.now in sym (refused_words _ _ _ _ (omega (arith, s.tops.ok.0)) (omega (arith, s.entries.ok.0)))
+pub returns-then-len-ge-MOST_WORDS : goal.returns-then-len-ge-MOST_WORDS
+returns-then-len-ge-MOST_WORDS g c = let s = c.args.self.now in sym (refused_words _ _ _ _ (omega (arith, s.tops.ok.0)) (omega (arith, s.entries.ok.0)))
 
 pub returns-then-not-has_places : goal.returns-then-not-has_places
 returns-then-not-has_places g c =
