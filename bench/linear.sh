@@ -1,10 +1,10 @@
 #!/usr/bin/env bash
 # How the work grows with the text: instructions per word, counted by valgrind, of the desk reading a text,
 # closing the book and listing every repeat. Nothing is asserted; the numbers are printed.
-# Needs valgrind and target/bin/desk (bin/desk builds it).
+# Needs valgrind and crates/desk/out/desk (bin/desk builds it).
 set -euo pipefail
 cd "$(dirname "${BASH_SOURCE[0]}")/.."
-program=target/bin/desk
+program=crates/desk/out/desk
 [ -x "$program" ] || {
     echo "bench/linear.sh: build the program first: bin/desk --help" >&2
     exit 1

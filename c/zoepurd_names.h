@@ -1,7 +1,7 @@
 /*
  * Note names for programs in C: read and written by plain numbers.
  *
- * `rt staticlib names` makes the library, target/staticlib/libnames.a.
+ * `c/build.sh` proves and makes the library, target/c/libnames.a.
  *
  * namings      0 English, 1 German
  * steps        0 to 6: C D E F G A B

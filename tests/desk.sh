@@ -1,5 +1,5 @@
 #!/usr/bin/env bash
-# Runs target/bin/desk as people do, and holds what it writes and its status to
+# Runs crates/desk/out/desk as people do, and holds what it writes and its status to
 # what they should be. Stops at the first difference.
 set -euo pipefail
 cd "$(dirname "${BASH_SOURCE[0]}")/.."

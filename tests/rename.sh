@@ -1,5 +1,5 @@
 #!/usr/bin/env bash
-# Runs target/bin/rename as people do, and holds what it writes and its status
+# Runs crates/rename/out/rename as people do, and holds what it writes and its status
 # to what they should be. Stops at the first difference.
 set -euo pipefail
 cd "$(dirname "${BASH_SOURCE[0]}")/.."

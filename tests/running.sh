@@ -1,6 +1,6 @@
 # Read by the tests of a program, which set `name` first: running the program
 # on a text, and holding what it writes and its status to what they should be.
-program=target/bin/$name
+program=crates/$name/out/$name
 work=$(mktemp -d)
 trap 'rm -rf "$work"' EXIT
 runs=0

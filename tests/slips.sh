@@ -1,20 +1,32 @@
 #!/usr/bin/env bash
 # Two slips must not compile: listing from a book that takes words, and taking a word into a closed one.
 # Each is compiled twice, on the book that does not allow the call and on the one that does, so that the
-# refusal is shown to come from the book's type and from nothing else.
+# refusal is shown to come from the book's type and from nothing else. The calls stand in crates of a
+# repository of their own, beside copies of the libraries here, with what was built of these.
 set -euo pipefail
 cd "$(dirname "${BASH_SOURCE[0]}")/.."
-kit=$(dirname "$(dirname "$(rt doc)")")
 work=$(mktemp -d)
 trap 'rm -rf "$work"' EXIT
 
+libraries=(names registers labels book)
+for library in "${libraries[@]}"; do
+    mkdir -p "$work/crates/$library"
+    for part in src specs proofs out/rlib; do
+        [ ! -d "crates/$library/$part" ] || cp -a --parents "crates/$library/$part" "$work"
+    done
+    grep "^$library *:" crates.txt >>"$work/crates.txt"
+done
+
 # attempt NAME TYPE STATEMENT: a crate with one function that makes the call
 attempt() {
-    mkdir -p "$work/$1/src"
-    cat >"$work/$1/src/lib.rt" <<SLIP
+    mkdir -p "$work/crates/$1/src"
+    echo "$1: book labels registers" >>"$work/crates.txt"
+    cat >"$work/crates/$1/src/lib.rt" <<SLIP
+// One call.
+#![tactic(auto)]
+
 use book::$2;
 use labels::Bare;
-use labels::BareLabel;
 use registers::Register;
 
 pub fn attempt<R: Register>(book: &mut $2<R>, table: &mut [u32]) {
@@ -23,10 +35,7 @@ pub fn attempt<R: Register>(book: &mut $2<R>, table: &mut [u32]) {
     $3
 }
 SLIP
-    "$kit/bin/rattle" check --crate-name attempt "$work/$1/src/lib.rt" --extern "std=$kit/rlib/std.rlib" \
-        --extern book=target/rlib/book.rlib --extern labels=target/rlib/labels.rlib --extern registers=target/rlib/registers.rlib \
-        -L dependency=target/rlib -L "dependency=$kit/rlib" \
-        --antt-project "$kit/logic/antt-project.json" --logic-built "$kit/logic-built" >"$work/$1.log" 2>&1
+    (cd "$work/crates/$1" && rt check) >"$work/$1.log" 2>&1
 }
 
 fail() {

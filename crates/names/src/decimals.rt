@@ -43,9 +43,9 @@ pub(crate) fn read_number(digits: &[u8], least: u8, most: u8) -> Option<u8>
     if number < least { None } else { Some(number) }
 }
 
-pub(crate) fn decimal_length(number: u8) -> usize
+pub(crate) fn decimal_length(number: u32) -> usize
     ensures value { result ≡ length (decimal number) }
-    ensures few { result ≤ 3 }
+    ensures few { result ≤ 10 }
 {
     if number < 10 {
         1
@@ -54,12 +54,12 @@ pub(crate) fn decimal_length(number: u8) -> usize
     }
 }
 
-pub(crate) fn lay_decimal(out: &mut [u8], at: usize, number: u8) -> usize
+pub(crate) fn lay_decimal(out: &mut [u8], at: usize, number: u32) -> usize
     requires { at + length (decimal number) ≤ length out.old }
     ensures place { result ≡ at + length (decimal number) }
     ensures after { out.new ≡ laid out.old at (decimal number) }
 {
-    let last = b'0' + number % 10;
+    let last = b'0' + (number % 10) as u8;
     if number < 10 {
         return lay_byte(out, at, last);
     }

@@ -1,4 +1,5 @@
-// Name reading and writing for programs in C: plain numbers and bytes. Each answers 0, or the refusal's number.
+// Name reading and writing by plain numbers and bytes, for programs in C, which link the crate `names_c`.
+// Each answers 0, or the refusal's number.
 ghost use Rattle.std.specs.Prelude.{◌≡◌};
 ghost use Rattle.names.specs.Numbered.{code, step_or, alteration_or, count_or, read_in, pitch_of, written_in, buffer_in};
 ghost use Rattle.names.specs.Pitches.{naming_numbered, step_numbered, alteration_numbered};
@@ -7,13 +8,7 @@ use crate::pitches::{Alteration, Naming, Pitch, Step};
 use crate::refusals::Refusal;
 use crate::spellings::{read_name, write_name};
 
-#[unsafe(no_mangle)]
-pub extern "C" fn zoepurd_read_name(
-    naming: u8,
-    name: &[u8],
-    step: &mut u8,
-    alteration: &mut i8,
-) -> u8
+pub fn zoepurd_read_name(naming: u8, name: &[u8], step: &mut u8, alteration: &mut i8) -> u8
     ensures answer { result ≡ code (read_in (naming_numbered naming) name.now) }
     ensures step { step.new ≡ step_or (read_in (naming_numbered naming) name.now) step.old }
     ensures alteration { alteration.new ≡ alteration_or (read_in (naming_numbered naming) name.now) alteration.old }
@@ -31,8 +26,7 @@ pub extern "C" fn zoepurd_read_name(
     }
 }
 
-#[unsafe(no_mangle)]
-pub extern "C" fn zoepurd_write_name(
+pub fn zoepurd_write_name(
     naming: u8,
     step: u8,
     alteration: i8,

@@ -4,7 +4,7 @@ ghost use Rattle.names.specs.Keywords.{keyword_number, keyword_numbered, keyword
 
 use crate::bytes::same_bytes;
 
-#[derive(Clone, Copy)]
+#[derive(Clone, Copy, PartialEq, Eq)]
 pub enum Keyword {
     Bar,
     Verse,

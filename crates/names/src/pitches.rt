@@ -5,13 +5,13 @@ ghost use Rattle.names.specs.Pitches.{naming_number, naming_numbered, naming_wor
 use crate::bytes::same_bytes;
 
 // The list of names in which notes are read or written.
-#[derive(Clone, Copy)]
+#[derive(Clone, Copy, PartialEq, Eq)]
 pub enum Naming {
     English,
     German,
 }
 
-#[derive(Clone, Copy)]
+#[derive(Clone, Copy, PartialEq, Eq)]
 pub enum Step {
     C,
     D,
@@ -22,7 +22,7 @@ pub enum Step {
     B,
 }
 
-#[derive(Clone, Copy)]
+#[derive(Clone, Copy, PartialEq, Eq)]
 pub enum Alteration {
     DoubleFlat,
     Flat,
@@ -31,7 +31,7 @@ pub enum Alteration {
     DoubleSharp,
 }
 
-#[derive(Clone, Copy)]
+#[derive(Clone, Copy, PartialEq, Eq)]
 pub struct Pitch {
     pub step: Step,
     pub alteration: Alteration,

@@ -29,7 +29,7 @@ pub enum Refusal {
 }
 
 // The part of the project that refuses.
-#[derive(Clone, Copy)]
+#[derive(Clone, Copy, PartialEq, Eq)]
 pub enum Layer {
     Text,
     Name,
@@ -38,7 +38,7 @@ pub enum Layer {
 }
 
 // A refusal and where it was met: the byte where its token begins, or 0 where no token is at fault.
-#[derive(Clone, Copy)]
+#[derive(Clone, Copy, PartialEq, Eq)]
 pub struct Fault {
     pub refusal: Refusal,
     pub byte: usize,

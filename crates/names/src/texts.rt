@@ -72,11 +72,11 @@ pub fn next_cut<'a>(text: &'a [u8], at: usize) -> Option<Cut<'a>>
     })
 }
 
-fn naming_after(naming: Option<Naming>, token: Token) -> Option<Naming>
-    ensures { result ≡ naming_after naming (said token.entry) }
+fn naming_after(naming: Option<Naming>, token: &Token) -> Option<Naming>
+    ensures { result ≡ naming_after naming (said token.now) }
 {
     match token {
-        Token::Naming(set) => Some(set),
+        Token::Naming(set) => Some(*set),
         _ => naming,
     }
 }
@@ -118,7 +118,7 @@ impl<'a> Reader<'a> {
         };
         match read_token(self.naming, cut.bytes) {
             Ok(token) => {
-                self.naming = naming_after(self.naming, token);
+                self.naming = naming_after(self.naming, &token);
                 self.at = cut.end;
                 Ok(Some(Placed {
                     byte: cut.byte,

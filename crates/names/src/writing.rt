@@ -38,19 +38,21 @@ pub fn token_length(naming: Naming, token: &Token) -> Result<usize, Refusal>
         }
         Token::Note(note) => {
             if is_sung(note.octave, note.length) {
-                Ok(spelling(naming, note.pitch).len() + 2 + decimal_length(note.length))
+                Ok(spelling(naming, note.pitch).len() + 2 + decimal_length(u32::from(note.length)))
             } else {
                 Err(Refusal::BadOctaveOrLength)
             }
         }
         Token::Rest { length } => {
             if is_lasting(*length) {
-                Ok(2 + decimal_length(*length))
+                Ok(2 + decimal_length(u32::from(*length)))
             } else {
                 Err(Refusal::BadOctaveOrLength)
             }
         }
-        Token::Frame { keyword, rank } => Ok(keyword.word().len() + 1 + decimal_length(*rank)),
+        Token::Frame { keyword, rank } => {
+            Ok(keyword.word().len() + 1 + decimal_length(u32::from(*rank)))
+        }
     }
 }
 
@@ -72,7 +74,7 @@ fn lay_marked(out: &mut [u8], at: usize, bytes: &[u8], mark: u8, number: u8) -> 
 {
     let behind = lay(out, at, bytes);
     let digits = lay_byte(out, behind, mark);
-    lay_decimal(out, digits, number)
+    lay_decimal(out, digits, u32::from(number))
 }
 
 fn lay_note(out: &mut [u8], at: usize, naming: Naming, note: &Note) -> usize

@@ -3,8 +3,8 @@ use Rattle.std.proofs.lemmas.Fmt.{length-decimal-le}
 use Rattle.names.proofs.Numbers.{length_digit, length_step}
 use Rattle.names.proofs.decimals.+decimal_length.Goals as goal
 
-few : (n : ℕ) → n < 2 ^ 8 → length (decimal n) ≤ 3
-few n h = length-decimal-le 3 n (omega arith) (omega arith) (omega arith)
+few : (n : ℕ) → n < 2 ^ 32 → length (decimal n) ≤ 10
+few n h = length-decimal-le 10 n (omega arith) (omega arith) (omega arith)
 
 pub returns-then-number-lt10 : goal.returns-then-number-lt10
 returns-then-number-lt10 t c = record { value = sym (length_digit c.args.number (search rules)); few = omega arith }

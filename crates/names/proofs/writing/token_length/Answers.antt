@@ -1,4 +1,4 @@
-use Rattle.std.proofs.Common.{◌≡◌, ℕ, ◌+◌, true, leb, [], ◌∷◌, ◌++◌, length, Some, None, Ok, Err, codes, sym, refl, ap, ◌∙◌, arith}
+use Rattle.std.proofs.Common.{◌≡◌, ℕ, ◌+◌, true, leb, [], ◌∷◌, ◌++◌, length, Some, None, Ok, Err, codes, decimal, sym, refl, ap, ◌∙◌, arith}
 use Rattle.std.proofs.lemmas.List.{length_push}
 use Rattle.std.proofs.lemmas.Bool.{le-leb}
 use Rattle.names.specs.declared.pitches.Naming.{Naming}
@@ -45,7 +45,7 @@ returns-then-is_sung c =
     let nm = name c.args.naming x.pitch in
     let m = length_marked (nm ++ ((48 + x.octave) ∷ [])) 47 x.length in
     let p = length_push nm (48 + x.octave) in
-    let d = c.decimal_length.ensures.value in
+    let d = c.decimal_length.ensures.value ∙ ap (λ n. length (decimal n)) c.from.ensures in
     let s = ap length c.spelling.ensures in
     fit c.args.naming c.args.token.now _ (length c.spelling.result.now + 2 + c.decimal_length.result) c.in-Note.is
     (ap (λ b. unless b BadOctaveOrLength) (sym c.is_sung.ensures ∙ c.if-is_sung.true)) (omega arith)
@@ -59,7 +59,7 @@ pub returns-then-is_lasting : goal.returns-then-is_lasting
 unfolding spelled
 returns-then-is_lasting c =
     let m = length_marked (codes "r") 47 c.in-Rest.length in
-    let d = c.decimal_length-then-is_lasting.ensures.value in
+    let d = c.decimal_length-then-is_lasting.ensures.value ∙ ap (λ n. length (decimal n)) c.from-then-is_lasting.ensures in
     fit c.args.naming c.args.token.now _ (2 + c.decimal_length-then-is_lasting.result) c.in-Rest.is
     (ap (λ b. unless b BadOctaveOrLength) (sym c.is_lasting.ensures ∙ c.if-is_lasting.true)) (omega arith)
 
@@ -73,7 +73,7 @@ unfolding spelled
 returns-in-Frame c =
     let rank = c.in-Frame.rank in
     let m = length_marked (keyword_word c.in-Frame.keyword) 58 rank in
-    let d = c.decimal_length-in-Frame.ensures.value in
+    let d = c.decimal_length-in-Frame.ensures.value ∙ ap (λ n. length (decimal n)) c.from-in-Frame.ensures in
     let w = ap length c.word-in-Frame.ensures in
     let fits : leb rank 255 ≡ true = le-leb rank 255 (omega arith) in
     fit c.args.naming c.args.token.now _ (length c.word-in-Frame.result.now + 1 + c.decimal_length-in-Frame.result) c.in-Frame.is
