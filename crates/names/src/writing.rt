@@ -2,11 +2,12 @@
 ghost use Rattle.std.specs.Prelude.{◌≡◌, ◌+◌, ◌≤◌, length, None};
 ghost use Rattle.names.specs.Buffers.{laid};
 ghost use Rattle.names.specs.Heard.{said, noted};
+ghost use Rattle.names.specs.Names.{name};
 ghost use Rattle.names.specs.Tokens.{spelled, malformed, sung, lasting, quotes, marked, lengthened, placed, buffered};
 
 use crate::buffers::{has_room, lay, lay_byte};
 use crate::decimals::{decimal_length, lay_decimal};
-use crate::pitches::Naming;
+use crate::pitches::{Naming, Pitch};
 use crate::refusals::Refusal;
 use crate::spellings::spelling;
 use crate::tokens::{Note, Token, is_syllable};
@@ -21,6 +22,12 @@ fn is_sung(octave: u8, length: u8) -> bool
     ensures { result ≡ sung octave length }
 {
     octave <= 9 && is_lasting(length)
+}
+
+fn name_length(naming: Naming, pitch: Pitch) -> usize
+    ensures { result ≡ length (name naming pitch) }
+{
+    spelling(naming, pitch).len()
 }
 
 // How many bytes the token takes, in the naming.
@@ -38,7 +45,7 @@ pub fn token_length(naming: Naming, token: &Token) -> Result<usize, Refusal>
         }
         Token::Note(note) => {
             if is_sung(note.octave, note.length) {
-                Ok(spelling(naming, note.pitch).len() + 2 + decimal_length(u32::from(note.length)))
+                Ok(name_length(naming, note.pitch) + 2 + decimal_length(u32::from(note.length)))
             } else {
                 Err(Refusal::BadOctaveOrLength)
             }
@@ -77,13 +84,21 @@ fn lay_marked(out: &mut [u8], at: usize, bytes: &[u8], mark: u8, number: u8) -> 
     lay_decimal(out, digits, u32::from(number))
 }
 
+fn lay_name(out: &mut [u8], at: usize, naming: Naming, pitch: Pitch) -> usize
+    requires { at + length (name naming pitch) ≤ length out.old }
+    ensures place { result ≡ at + length (name naming pitch) }
+    ensures after { out.new ≡ laid out.old at (name naming pitch) }
+{
+    lay(out, at, spelling(naming, pitch))
+}
+
 fn lay_note(out: &mut [u8], at: usize, naming: Naming, note: &Note) -> usize
     requires room { at + length (spelled naming (noted note.now)) ≤ length out.old }
     requires octave { note.now.octave ≤ 9 }
     ensures place { result ≡ at + length (spelled naming (noted note.now)) }
     ensures after { out.new ≡ laid out.old at (spelled naming (noted note.now)) }
 {
-    let octave = lay(out, at, spelling(naming, note.pitch));
+    let octave = lay_name(out, at, naming, note.pitch);
     lay_marked(out, octave, &[b'0' + note.octave], b'/', note.length)
 }
 

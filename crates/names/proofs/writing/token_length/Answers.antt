@@ -46,8 +46,8 @@ returns-then-is_sung c =
     let m = length_marked (nm ++ ((48 + x.octave) ∷ [])) 47 x.length in
     let p = length_push nm (48 + x.octave) in
     let d = c.decimal_length.ensures.value ∙ ap (λ n. length (decimal n)) c.from.ensures in
-    let s = ap length c.spelling.ensures in
-    fit c.args.naming c.args.token.now _ (length c.spelling.result.now + 2 + c.decimal_length.result) c.in-Note.is
+    let s = c.name_length.ensures in
+    fit c.args.naming c.args.token.now _ (c.name_length.result + 2 + c.decimal_length.result) c.in-Note.is
     (ap (λ b. unless b BadOctaveOrLength) (sym c.is_sung.ensures ∙ c.if-is_sung.true)) (omega arith)
 
 pub returns-else-is_sung : goal.returns-else-is_sung
