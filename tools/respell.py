@@ -126,6 +126,17 @@ def respell(line, mark, new, fields):
     return "".join(parts) + comment
 
 
+def by_its_own_name(text, mark):
+    """port.py imports the library's AllByRecursion as All, which `rt ci` refuses: All is another word today."""
+    if "AllByRecursion as All" not in text:
+        return text
+    lines = []
+    for line in text.replace("AllByRecursion as All", "AllByRecursion").splitlines(keepends=True):
+        code, comment = split_comment(line, mark)
+        lines.append(re.sub(r"(?<![\w'\-.])All(?![\w'\-])", "AllByRecursion", code) + comment)
+    return "".join(lines)
+
+
 def main():
     dry = "--dry" in sys.argv
     found = declared()
@@ -152,7 +163,8 @@ def main():
     for path in sources("crates/*/**/*.antt") + sources("crates/*/src/**/*.rt"):
         mark = "--" if path.endswith(".antt") else "//"
         text = open(path, encoding="utf-8").read()
-        out = "".join(respell(line, mark, new, fields) for line in text.splitlines(keepends=True))
+        out = by_its_own_name(text, mark)
+        out = "".join(respell(line, mark, new, fields) for line in out.splitlines(keepends=True))
         if out != text:
             open(path, "w", encoding="utf-8").write(out)
     return 0

@@ -30,7 +30,7 @@ fn long_enough(rt: HostRuntime) -> Result<(), Fail> {
         return Err(Fail::new("not listed"));
     };
     assert_eq!(rt; told.count, 3);
-    assert_eq!(rt; table.as_slice(), &[0, 1, 2, 9]);
+    assert_eq!(rt; table.as_slice(), [0, 1, 2, 9].as_slice());
     Ok(())
 }
 
@@ -41,7 +41,7 @@ fn just_long_enough(rt: HostRuntime) -> Result<(), Fail> {
     };
     assert_eq!(rt; told.group, 3);
     assert_eq!(rt; told.size, 1);
-    assert_eq!(rt; table.as_slice(), &[0, 1, 2]);
+    assert_eq!(rt; table.as_slice(), [0, 1, 2].as_slice());
     Ok(())
 }
 
@@ -52,6 +52,6 @@ fn too_short(rt: HostRuntime) -> Result<(), Fail> {
         return Err(Fail::new("not refused"));
     };
     assert_eq!(rt; refusal.number(), 43);
-    assert_eq!(rt; table.as_slice(), &[9, 9]);
+    assert_eq!(rt; table.as_slice(), [9, 9].as_slice());
     Ok(())
 }
