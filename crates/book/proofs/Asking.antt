@@ -1,6 +1,6 @@
 -- Questions, said of the words. Assumes nothing.
 use Rattle.std.proofs.Common.{◌≡◌, ℕ, zero, suc, ◌+◌, ◌-◌, ◌<◌, ◌≤◌, Bool, true, false, cond, ◌&&◌, eqb, ltb, leb, List, [], ◌∷◌, ◌++◌, length, get_or, drop, Ok, Err, filter, Result, sym, refl, ap, ◌∙◌, arith}
-use Rattle.std.specs.List.{flat_map, AllByRecursion as All, range_with_len}
+use Rattle.std.specs.List.{flat_map, AllByRecursion, range_with_len}
 use Rattle.std.proofs.lemmas.Bool.{cond_both, ltb-true}
 use Rattle.std.proofs.lemmas.List.{length-append}
 use Rattle.std.proofs.ByRecursion.{All-get_or}
@@ -48,15 +48,15 @@ pub tells_start : (s : State) (p : ℕ) (r : Result ℕ Refusal) → r ≡ start
 tells_start s p r e = tells_by s r (λ t. start_answer t p) (word_start p) e (λ qs room ws f. at_position_same _ _ p _ _ (entries_long qs ws) (λ h. ap (λ (x : Entry). x.start) (entry_read qs ws p h)))
 
 -- the repeats by numbers that are the same below n
-all_counting : (P : ℕ → Type 0) (a n : ℕ) → ((p : ℕ) → p < a + n → P p) → All P (range_with_len a n)
+all_counting : (P : ℕ → Type 0) (a n : ℕ) → ((p : ℕ) → p < a + n → P p) → AllByRecursion P (range_with_len a n)
 all_counting P a zero h = tt
 all_counting P a (suc n) h = (h a (omega arith), all_counting P (a + 1) n (λ p l. h p (omega arith)))
 
-kept_same : (f g : ℕ → Bool) (xs : List ℕ) → All (λ x. f x ≡ g x) xs → filter f xs ≡ filter g xs
+kept_same : (f g : ℕ → Bool) (xs : List ℕ) → AllByRecursion (λ x. f x ≡ g x) xs → filter f xs ≡ filter g xs
 kept_same f g [] h = refl
 kept_same f g (x ∷ xs) h = ap (λ b. cond b (x ∷ filter f xs) (filter f xs)) h.0 ∙ ap (λ ys. cond (g x) (x ∷ ys) ys) (kept_same f g xs h.1)
 
-joined_same : {X : Type 0} (f g : ℕ → List X) (xs : List ℕ) → All (λ x. f x ≡ g x) xs → flat_map f xs ≡ flat_map g xs
+joined_same : {X : Type 0} (f g : ℕ → List X) (xs : List ℕ) → AllByRecursion (λ x. f x ≡ g x) xs → flat_map f xs ≡ flat_map g xs
 joined_same f g [] h = refl
 joined_same f g (x ∷ xs) h = ap (λ l. l ++ flat_map f xs) h.0 ∙ ap (λ l. g x ++ l) (joined_same f g xs h.1)
 

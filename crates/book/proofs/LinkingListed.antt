@@ -1,6 +1,6 @@
 -- A walk along the links passes the ends of a repeat, and what is told of the repeat of a number. Assumes nothing.
 use Rattle.std.proofs.Common.{◌≡◌, ℕ, zero, suc, ◌+◌, ◌-◌, ◌<◌, ◌≤◌, Bool, true, false, cond, eqb, List, [], ◌∷◌, ◌++◌, length, get_or, take, drop, set, filter, sym, refl, ap, ◌∙◌, ⊎_elim, add-one, arith}
-use Rattle.std.specs.List.{AllByRecursion as All, range_with_len}
+use Rattle.std.specs.List.{AllByRecursion, range_with_len}
 use Rattle.std.proofs.lemmas.List.{get_or_past, length-take-le, take_more, drop_more, set_at, append_assoc, take_all}
 use Rattle.std.proofs.ByRecursion.{All-get_or, all_kept_by, kept_by_passes}
 use Rattle.std.proofs.lemmas.Bool.{cases_lt, cond_both, eqb-true}
@@ -21,7 +21,7 @@ length_kept t a (suc m) =
     let h = length_kept t (a + 1) m in
     cond_both (t a) (a ∷ filter t (range_with_len (a + 1) m)) (filter t (range_with_len (a + 1) m)) (λ x. length x ≤ suc m) (λ _. omega arith) (λ _. omega arith)
 
-below_counting : (a m b : ℕ) → a + m ≤ b → All (λ p. p < b) (range_with_len a m)
+below_counting : (a m b : ℕ) → a + m ≤ b → AllByRecursion (λ p. p < b) (range_with_len a m)
 below_counting a zero b h = tt
 below_counting a (suc m) b h = (omega arith, below_counting (a + 1) m b (omega arith))
 
@@ -50,7 +50,7 @@ module _ (number : ℕ → ℕ) (n g : ℕ) where
   ends_few : length (ends number n g) ≤ n
   ends_few = length_kept (λ q. eqb (number q) g) 0 n
 
-  pub ends_all_below : All (λ q. q < n) (ends number n g)
+  pub ends_all_below : AllByRecursion (λ q. q < n) (ends number n g)
   ends_all_below = all_kept_by (λ q. eqb (number q) g) (λ q. q < n) (range_with_len 0 n) (below_counting 0 n n (omega arith))
 
   ends_below : (i : ℕ) → i < length (ends number n g) → get_or (ends number n g) i 0 < n
@@ -164,7 +164,7 @@ module _ (later : List ℕ) (p count : ℕ) (before : List ℕ) where
             ∙ (sym (append_assoc (take place whole) (get_or whole place 0 ∷ []) (drop (place + 1) before)) ∙ ap (λ x. x ++ drop (place + 1) before) (sym front))));
       }
 
-  pub written_below : (place end : ℕ) (table : List ℕ) → place < count → All (λ q. q < length later) (along later p count) → Written later p count before place end table → end < length later
+  pub written_below : (place end : ℕ) (table : List ℕ) → place < count → AllByRecursion (λ q. q < length later) (along later p count) → Written later p count before place end table → end < length later
   written_below place end table l a w = rw (w.is l) (All-get_or (λ q. q < length later) (along later p count) place 0 (omega (arith, length_along later p count)) a)
 
   pub written_all : (place end : ℕ) (table : List ℕ) → place ≡ count → Written later p count before place end table → table ≡ along later p count ++ drop count before

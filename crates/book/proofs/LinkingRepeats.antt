@@ -1,6 +1,6 @@
 -- What is listed of the repeat of a number, by the first ends that were gathered. Assumes nothing.
 use Rattle.std.proofs.Common.{◌≡◌, ℕ, zero, suc, ◌+◌, ◌<◌, ◌≤◌, Bool, true, false, cond, ltb, leb, List, [], ◌∷◌, ◌++◌, map, length, get_or, drop, Ok, Err, Result, sym, refl, ap, ◌∙◌, ⊎_elim, arith}
-use Rattle.std.specs.List.{AllByRecursion as All, range_with_len}
+use Rattle.std.specs.List.{AllByRecursion, range_with_len}
 use Rattle.std.proofs.lemmas.List.{length-map, get_or-map}
 use Rattle.std.proofs.ByRecursion.{All-get_or}
 use Rattle.std.proofs.lemmas.Bool.{cond-true, cond-false, lt-ltb, le-ltb, le-leb, ltb-true, ltb-false, leb-true, and_from, and_left, and_right}
@@ -48,7 +48,7 @@ module _ (es : List Entry) (later : List ℕ) (linked : Linked es later) where
       let same : ends_with es p ≡ ends_from number p n (number p) = opened_list number n p o.below o.opens ∙ sym (from_here number n p (number p) o.below refl) in
       rw same (along_by n p (number p) (omega arith) o.below refl)
 
-  pub along_below : (p : ℕ) → OpensGroup es p → All (λ q. q < length later) (along later p (length (ends_with es p)))
+  pub along_below : (p : ℕ) → OpensGroup es p → AllByRecursion (λ q. q < length later) (along later p (length (ends_with es p)))
   along_below p o = rw (along_ends p o, linked.long) (ends_all_below number n (number p))
 
 -- The repeat of number k is the group of the k-th first end.
@@ -65,7 +65,7 @@ is_repeat es p l two e = record {
   all = ap (ends_with es) (sym e);
 }
 
-pub each_repeat : (es : List Entry) → All (IsRepeat es) (repeats_of es)
+pub each_repeat : (es : List Entry) → AllByRecursion (IsRepeat es) (repeats_of es)
 unfolding Opens
 each_repeat es = all_joined (IsRepeat es) (λ p. listed_at p (ends_with es p)) (range_with_len 0 (length es))
     (λ p m. ⊎_elim
@@ -153,7 +153,7 @@ module _ (es : List Entry) (firsts : List ℕ) (is : firsts ≡ map first (repea
         places_fit = leb-true t.count (length table) (cond_ok (leb t.count (length table)) tt tt TableTooShort fits).0
 
         -- what writing the ends requires
-        pub links_below : All (λ q. q < length later) (along later p t.count)
+        pub links_below : AllByRecursion (λ q. q < length later) (along later p t.count)
         links_below = rw (count_is, ends_are) (along_below es later linked p opens_first)
 
         pub all_listed : (after : List ℕ) → after ≡ along later p t.count ++ drop t.count table → (Ok t ≡ listed_answer es k (length table)) × (after ≡ listed_table es k table)

@@ -1,6 +1,6 @@
 -- The repeats by numbers are a listing. Assumes nothing.
 use Rattle.std.proofs.Common.{◌≡◌, ℕ, zero, suc, ◌+◌, ◌<◌, ◌≤◌, Bool, true, false, cond, eqb, ◌⊎◌, ◌↔◌, List, [], ◌∷◌, ◌++◌, map, length, filter, sym, refl, ap, ◌∙◌, inl, inr, ⊎_elim, arith}
-use Rattle.std.specs.List.{flat_map, AllByRecursion as All, range_with_len}
+use Rattle.std.specs.List.{flat_map, AllByRecursion, range_with_len}
 use Rattle.std.proofs.ByRecursion.{all_kept_by, All-append}
 use Rattle.std.proofs.lemmas.Bool.{eq-eqb, eqb-true, true≢false, cases_eq, cond_both}
 use Rattle.book.specs.Repeats.{◌among◌, Rising, first, Repeat, Listing, ends, listed_at, repeats}
@@ -20,7 +20,7 @@ among_counting a (suc n) x = (
   λ h. ⊎_elim (λ s. inl s) (λ d. inr ((among_counting (a + 1) n x).1 (omega arith))) (cases_eq x a),
 )
 
-all_counting : (a b n : ℕ) → a < b → All (λ y. a < y) (range_with_len b n)
+all_counting : (a b n : ℕ) → a < b → AllByRecursion (λ y. a < y) (range_with_len b n)
 all_counting a b zero h = tt
 all_counting a b (suc n) h = (h, all_counting a (b + 1) n (omega arith))
 
@@ -40,7 +40,7 @@ among_joined : {A B : Type 0} (f : A → List B) (x : A) (y : B) (xs : List A) �
 among_joined f x y [] h k = absurd h
 among_joined f x y (z ∷ xs) h k = among_append y (f z) (flat_map f xs) (⊎_elim (λ s. inl (rw s at k)) (λ m. inr (among_joined f x y xs m k)) h)
 
-pub all_joined : {A B : Type 0} (P : B → Type 0) (f : A → List B) (xs : List A) → ((x : A) → x among xs → All P (f x)) → All P (flat_map f xs)
+pub all_joined : {A B : Type 0} (P : B → Type 0) (f : A → List B) (xs : List A) → ((x : A) → x among xs → AllByRecursion P (f x)) → AllByRecursion P (flat_map f xs)
 all_joined P f [] h = tt
 all_joined P f (x ∷ xs) h = All-append P (f x) (flat_map f xs) (h x (inl refl)) (all_joined P f xs (λ y k. h y (inr k)))
 
@@ -76,7 +76,7 @@ module _ (E : ℕ → List ℕ) where
   listed_by : ℕ → List (List ℕ)
   listed_by p = listed_at p (E p)
 
-  firsts_after : (x : ℕ) (ps : List ℕ) → All (λ y. x < y) ps → All (λ y. x < y) (map first (flat_map listed_by ps))
+  firsts_after : (x : ℕ) (ps : List ℕ) → AllByRecursion (λ y. x < y) ps → AllByRecursion (λ y. x < y) (map first (flat_map listed_by ps))
   unfolding Opens listed_by
   firsts_after x [] h = tt
   firsts_after x (p ∷ ps) h = ⊎_elim (λ e. rw e (firsts_after x ps h.1)) (λ o. rw (o.0, o.2) (h.0, firsts_after x ps h.1)) (opens_or_not p (E p))
@@ -106,7 +106,7 @@ module _ (number : ℕ → ℕ) (n : ℕ) (Same : ℕ → ℕ → Type 0) (exact
     );
   }
 
-  each_repeat : (p : ℕ) → p < n → All (Repeat Same n) (listed_at p (ends number n (number p)))
+  each_repeat : (p : ℕ) → p < n → AllByRecursion (Repeat Same n) (listed_at p (ends number n (number p)))
   unfolding Opens
   each_repeat p h = ⊎_elim (λ e. rw e tt) (λ o. rw o.0 (is_repeat p h o, tt)) (opens_or_not p (ends number n (number p)))
 

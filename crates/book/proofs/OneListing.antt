@@ -1,9 +1,9 @@
 -- There is only one listing. Assumes nothing.
 use Rattle.std.proofs.Common.{◌≡◌, ℕ, ◌<◌, ◌≤◌, List, [], ◌∷◌, map, length, sym, refl, ap, ◌∙◌, inl, inr, ⊎_elim, arith}
-use Rattle.std.specs.List.{AllByRecursion as All}
+use Rattle.std.specs.List.{AllByRecursion}
 use Rattle.book.specs.Repeats.{◌among◌, Rising, first, Repeat, Listing}
 
-all_among : {A : Type 0} (P : A → Type 0) (x : A) (xs : List A) → All P xs → x among xs → P x
+all_among : {A : Type 0} (P : A → Type 0) (x : A) (xs : List A) → AllByRecursion P xs → x among xs → P x
 all_among P x [] a h = absurd h
 all_among P x (y ∷ ys) a h = ⊎_elim (λ e. rw e a.0) (λ k. all_among P x ys a.1 k) h
 
@@ -64,13 +64,13 @@ module _ (Same : ℕ → ℕ → Type 0) (n : ℕ) (back : (p q : ℕ) → Same 
       let high : first es ≤ first fs = least (first fs) es a.rising ((a.exactly (first fs)).1 (f.0, back (first es) (first fs) x-same.1)) in
       (fs, found.1, omega arith)
 
-  firsts_in_other : (ls ms : List (List ℕ)) → All (Repeat Same n) ls → Listing Same n ms → (x : ℕ) → x among map first ls → x among map first ms
+  firsts_in_other : (ls ms : List (List ℕ)) → AllByRecursion (Repeat Same n) ls → Listing Same n ms → (x : ℕ) → x among map first ls → x among map first ms
   firsts_in_other [] ms a m x h = absurd h
   firsts_in_other (es ∷ ls) ms a m x h = ⊎_elim
       (λ e. let found = first_in_other ls ms m es a.0 in let f : x ≡ first found.0 = e ∙ sym found.2 in rw f (among_map found.0 ms found.1))
       (λ k. firsts_in_other ls ms a.1 m x k) h
 
-  by_firsts : (ls ms : List (List ℕ)) → All (Repeat Same n) ls → All (Repeat Same n) ms → map first ls ≡ map first ms → ls ≡ ms
+  by_firsts : (ls ms : List (List ℕ)) → AllByRecursion (Repeat Same n) ls → AllByRecursion (Repeat Same n) ms → map first ls ≡ map first ms → ls ≡ ms
   by_firsts [] [] a b e = refl
   by_firsts [] (fs ∷ ms) a b e = absurd (omega (arith, ap length e))
   by_firsts (es ∷ ls) [] a b e = absurd (omega (arith, ap length e))

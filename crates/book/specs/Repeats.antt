@@ -1,6 +1,6 @@
 -- Repeats, and the listing of all repeats. Assumes nothing.
 use Rattle.std.specs.Prelude.{◌≡◌, ℕ, ◌<◌, ◌≤◌, cond, ◌⊎◌, ◌↔◌, List, [], ◌∷◌, map, length, filter, ◌==◌, ◌≢◌, nat_eq, slice_index}
-use Rattle.std.specs.List.{flat_map, AllByRecursion as All, range_with_len}
+use Rattle.std.specs.List.{flat_map, AllByRecursion, range_with_len}
 use Rattle.book.specs.Words.{Word}
 use Rattle.book.specs.Tops.{passage_at}
 
@@ -11,7 +11,7 @@ x among (y ∷ ys) = (x ≡ y) ⊎ (x among ys)
 infix 40 ◌among◌
 abbrev pub Rising : List ℕ → Type 0
 Rising [] = Unit {0}
-Rising (x ∷ xs) = All (λ y. x < y) xs × Rising xs
+Rising (x ∷ xs) = AllByRecursion (λ y. x < y) xs × Rising xs
 
 abbrev pub first : List ℕ → ℕ
 first es = slice_index es 0
@@ -28,7 +28,7 @@ pub record Repeat (Same : ℕ → ℕ → Type 0) (n : ℕ) (es : List ℕ) : Ty
 
 -- A listing: each listed one is a repeat, first ends rise, and any two different positions that are the same lie in one that is listed.
 pub record Listing (Same : ℕ → ℕ → Type 0) (n : ℕ) (listed : List (List ℕ)) : Type 0 where
-  pub each : All (Repeat Same n) listed
+  pub each : AllByRecursion (Repeat Same n) listed
   pub ordered : Rising (map first listed)
   pub complete : (p q : ℕ) → p < n → q < n → (p ≢ q) → Same p q → (es : List ℕ) × (es among listed) × (p among es) × (q among es)
 

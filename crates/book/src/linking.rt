@@ -1,6 +1,6 @@
 // Each word is linked to the next word of its group when a book is closed, and a repeat is listed along the links.
 ghost use Rattle.std.specs.Prelude.{◌≡◌, ◌+◌, ◌-◌, ◌<◌, ◌≤◌, ◌&&◌, ltb, ◌++◌, map, length, drop, if◌then◌else◌, Ok, Err, vec_len, vec_capacity, ◌==◌, nat_le, nat_lt, slice_index, slice_set};
-ghost use Rattle.std.specs.List.{AllByRecursion as All};
+ghost use Rattle.std.specs.List.{AllByRecursion};
 ghost use Rattle.book.specs.Repeats.{first};
 ghost use Rattle.book.specs.Linking.{number_at, repeats_of, if_later, Numbered, Started, Linked, Opened, along, OpensGroup, listing_from, listed_answer, listed_table};
 
@@ -158,7 +158,7 @@ fn next_end(later: &[u32], end: u32) -> u32
 
 // Writes so many positions along the links from the first end on, each into the next place of the table.
 fn write_ends(later: &[u32], first: u32, count: u32, table: &mut [u32])
-    requires links { All (λ p. p < length later.now) (along later.now first count) }
+    requires links { AllByRecursion (λ p. p < length later.now) (along later.now first count) }
     requires places { count ≤ length table.old }
     ensures { table.new ≡ along later.now first count ++ drop count table.old }
 {

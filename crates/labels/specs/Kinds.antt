@@ -2,7 +2,7 @@
 use Rattle.std.specs.Prelude.{ℕ, ◌<◌, List, [], ◌∷◌, map, take, refl}
 use Rattle.std.proofs.Common.{arith, length-take}
 use Rattle.std.proofs.lemmas.List.{length-map}
-use Rattle.std.specs.List.{AllByRecursion as All}
+use Rattle.std.specs.List.{AllByRecursion}
 use Rattle.names.specs.declared.pitches.Step.{Step}
 use Rattle.names.specs.declared.pitches.Step.TheVariants.{C, D, E, F, G, A, B}
 use Rattle.names.specs.declared.pitches.Alteration.{Alteration}
@@ -60,7 +60,7 @@ written_spells p octave lasts =
 pub rest_spells : (lasts : ℕ) → Spells 2 2 (rest_spelling (byte lasts))
 rest_spells lasts = record { begins = refl; some = omega arith; within = omega arith; most = omega arith; small = (omega arith, (omega arith, tt)) }
 
-bytes_small : (bs : List ℕ) → All (λ n. n < 65536) (map byte bs)
+bytes_small : (bs : List ℕ) → AllByRecursion (λ n. n < 65536) (map byte bs)
 bytes_small [] = tt
 bytes_small (b ∷ bs) = (omega arith, bytes_small bs)
 

@@ -1,6 +1,6 @@
 -- Spellings: what a label means, and how each kind of label is spelled. Assumes nothing.
 use Rattle.std.specs.Prelude.{◌≡◌, ℕ, ◌+◌, ◌*◌, ◌<◌, ◌≤◌, min, Bool, cond, ◌&&◌, List, [], ◌∷◌, map, length, take, ℤ, pos, ◌+ℤ◌, Some, None, Option, nat_le, slice_index_or}
-use Rattle.std.specs.List.{AllByRecursion as All}
+use Rattle.std.specs.List.{AllByRecursion}
 use Rattle.names.specs.declared.pitches.Step.{Step}
 use Rattle.names.specs.declared.pitches.Step.TheVariants.{C, D, E, F, G, A, B}
 use Rattle.names.specs.declared.pitches.Alteration.{Alteration}
@@ -18,7 +18,7 @@ pub record Spells (kind longest : ℕ) (s : List ℕ) : Type 0 where
   pub some : 1 ≤ length s
   pub within : length s ≤ longest
   pub most : longest ≤ 32
-  pub small : All (λ n. n < 65536) s
+  pub small : AllByRecursion (λ n. n < 65536) s
 
 -- What a byte holds, and a syllable's bytes. A field of a struct is any number to a definition, so a label's spelling says by these
 -- what the field's type says: a number is at most 255. A syllable is at most 30 bytes.

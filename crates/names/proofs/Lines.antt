@@ -1,6 +1,6 @@
 -- A line of words reads back as its words.
 use Rattle.std.proofs.Common.{◌≡◌, ℕ, ◌+◌, ◌<◌, ◌≤◌, Bool, true, false, cond, ◌&&◌, ltb, leb, List, [], ◌∷◌, ◌++◌, length, Some, None, Ok, Err, codes, decimal, Option, Result, refl, ap, ◌∙◌, arith, length-append}
-use Rattle.std.specs.List.{AllByRecursion as All}
+use Rattle.std.specs.List.{AllByRecursion}
 use Rattle.std.specs.Char.{is_ascii_digit}
 use Rattle.std.proofs.lemmas.Fmt.{digits_decimal}
 use Rattle.std.proofs.lemmas.Bool.{cond-true, cond-false, and_parts, and_from, le-ltb, leb-true}
@@ -108,7 +108,7 @@ tells_word : (x later : Telling) (ts : List Said) (t : Said) (u : Told) → x �
 tells_word x later ts t u e s w h =
     (ap (λ y. words_of y.tokens) e ∙ cond-true (is_word u.says) _ _ (ap is_word s ∙ w) ∙ ap (λ y. y ∷ words_of later.tokens) s ∙ ap (λ ys. t ∷ ys) h.0, ap (λ y. y.fault) e ∙ h.1)
 
-spaced_told : (n : Naming) (ts : List Said) (at : ℕ) → All Typable ts → Tells (told (Some n) (pieces at (spaced n ts))) ts
+spaced_told : (n : Naming) (ts : List Said) (at : ℕ) → AllByRecursion Typable ts → Tells (told (Some n) (pieces at (spaced n ts))) ts
 unfolding spaced pieces told
 spaced_told n [] at h = (refl, refl)
 spaced_told n (t ∷ ts) at h =
@@ -126,7 +126,7 @@ naming_some : (n : Naming) → 0 < length (naming_word n)
 naming_some English = omega arith
 naming_some German = omega arith
 
-line_told : (n : Naming) (ts : List Said) → All Typable ts → Tells (told None (pieces 0 (line n ts))) ts
+line_told : (n : Naming) (ts : List Said) → AllByRecursion Typable ts → Tells (told None (pieces 0 (line n ts))) ts
 line_told n ts h =
     let w = naming_word n in
     let rest = pieces (0 + length w) (spaced n ts) in
@@ -139,33 +139,33 @@ pub typable_token : (n : Option Naming) (bs : List ℕ) (t : Said) → token_rea
 typable_token None bs t e = (same English bs t (unset English bs t e)).0
 typable_token (Some n) bs t e = (same n bs t e).0
 
-pub told_typable : (ps : List Piece) (n : Option Naming) → All Typable (words_of (told n ps).tokens)
+pub told_typable : (ps : List Piece) (n : Option Naming) → AllByRecursion Typable (words_of (told n ps).tokens)
 unfolding told
 told_typable [] n = tt
 told_typable (p ∷ ps) n = by (token_read n p.bytes) refl (λ m. told_typable ps m)
   where
-    as_word : (t : Said) (b : Bool) → is_word t ≡ b → malformed t ≡ None → (ws : List Said) → All Typable ws → All Typable (cond b (t ∷ ws) ws)
+    as_word : (t : Said) (b : Bool) → is_word t ≡ b → malformed t ≡ None → (ws : List Said) → AllByRecursion Typable ws → AllByRecursion Typable (cond b (t ∷ ws) ws)
     as_word t true w f ws h = (record { word = w; formed = f }, h)
     as_word t false w f ws h = h
 
-    by : (r : Result Said Refusal) → token_read n p.bytes ≡ r → ((m : Option Naming) → All Typable (words_of (told m ps).tokens)) → All Typable (words_of (telling p n r (λ m. told m ps)).tokens)
+    by : (r : Result Said Refusal) → token_read n p.bytes ≡ r → ((m : Option Naming) → AllByRecursion Typable (words_of (told m ps).tokens)) → AllByRecursion Typable (words_of (telling p n r (λ m. told m ps)).tokens)
     by (Err f) e h = tt
     by (Ok t) e h = as_word t (is_word t) refl (typable_token n p.bytes t e) (words_of (told (naming_after n t) ps).tokens) (h (naming_after n t))
 
 -- whatever is told could be written
-pub told_formed : (ps : List Piece) (n : Option Naming) → All (λ t. malformed t.says ≡ None) (told n ps).tokens
+pub told_formed : (ps : List Piece) (n : Option Naming) → AllByRecursion (λ t. malformed t.says ≡ None) (told n ps).tokens
 unfolding told
 told_formed [] n = tt
 told_formed (p ∷ ps) n = by (token_read n p.bytes) refl (λ m. told_formed ps m)
   where
-    by : (r : Result Said Refusal) → token_read n p.bytes ≡ r → ((m : Option Naming) → All (λ t. malformed t.says ≡ None) (told m ps).tokens) → All (λ t. malformed t.says ≡ None) (telling p n r (λ m. told m ps)).tokens
+    by : (r : Result Said Refusal) → token_read n p.bytes ≡ r → ((m : Option Naming) → AllByRecursion (λ t. malformed t.says ≡ None) (told m ps).tokens) → AllByRecursion (λ t. malformed t.says ≡ None) (telling p n r (λ m. told m ps)).tokens
     by (Err f) e h = tt
     by (Ok t) e h = (typable_token n p.bytes t e, h (naming_after n t))
 
-text_typable : (text : List ℕ) → All Typable (words_of (text_told text).tokens)
+text_typable : (text : List ℕ) → AllByRecursion Typable (words_of (text_told text).tokens)
 text_typable text = by (ltb 65536 (length text))
   where
-    by : (b : Bool) → All Typable (words_of (cond b (stopped TextTooLong 0) (told None (pieces 0 text))).tokens)
+    by : (b : Bool) → AllByRecursion Typable (words_of (cond b (stopped TextTooLong 0) (told None (pieces 0 text))).tokens)
     by true = tt
     by false = told_typable (pieces 0 text) None
 

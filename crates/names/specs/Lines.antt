@@ -1,6 +1,6 @@
 -- A line of words in one naming. Assumes nothing.
 use Rattle.std.specs.Prelude.{◌≡◌, ℕ, ◌≤◌, Bool, true, false, cond, List, [], ◌∷◌, ◌++◌, length, None}
-use Rattle.std.specs.List.{AllByRecursion as All}
+use Rattle.std.specs.List.{AllByRecursion}
 use Rattle.names.specs.declared.pitches.Naming.{Naming}
 use Rattle.names.specs.Pitches.{naming_word}
 use Rattle.names.specs.Texts.{Told, text_told}
@@ -33,6 +33,6 @@ pub record Typable (t : Said) : Type 0 where
 
 -- a line of words that can be typed is a text that tells just these words
 pub record LineLaws : Type 0 where
-  pub back : (n : Naming) (ts : List Said) → All Typable ts → length (line n ts) ≤ 65536 → (words_of (text_told (line n ts)).tokens ≡ ts) × ((text_told (line n ts)).fault ≡ None)
+  pub back : (n : Naming) (ts : List Said) → AllByRecursion Typable ts → length (line n ts) ≤ 65536 → (words_of (text_told (line n ts)).tokens ≡ ts) × ((text_told (line n ts)).fault ≡ None)
   -- the words of a text can be typed
-  pub typable : (text : List ℕ) → All Typable (words_of (text_told text).tokens)
+  pub typable : (text : List ℕ) → AllByRecursion Typable (words_of (text_told text).tokens)

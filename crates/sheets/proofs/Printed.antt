@@ -1,6 +1,6 @@
 -- Lines of words read back. Assumes nothing.
 use Rattle.std.proofs.Common.{◌≡◌, ℕ, List, [], ◌∷◌, map, Some, None, Option, sym, refl, ap, ◌∙◌, arith}
-use Rattle.std.specs.List.{AllByRecursion as All}
+use Rattle.std.specs.List.{AllByRecursion}
 use Rattle.names.specs.Lines.{Typable, line, words_of}
 use Rattle.names.specs.Texts.{Told, text_told}
 use Rattle.names.specs.Tokens.{Said, naming, syllable, note, rest, frame}
@@ -33,11 +33,11 @@ placed_given (t ∷ ts) = by t.says (placed_given ts)
     by (frame k rank) e = ap (λ ws. given (word_of Written (frame k rank)) ws) e
 
 -- the tokens of words can be typed, and give the words
-tokens_good : (ws : List Word) (ts : List Said) → tokens_of ws ≡ Some ts → All Typable ts × (words_given ts ≡ ws)
+tokens_good : (ws : List Word) (ts : List Said) → tokens_of ws ≡ Some ts → AllByRecursion Typable ts × (words_given ts ≡ ws)
 tokens_good [] ts e = let none : [] ≡ ts = cc in rw (sym none) (tt, refl)
 tokens_good (w ∷ ws) ts e = by (token_of w) refl (tokens_of ws) refl e (tokens_good ws)
   where
-    by : (o : Option Said) → token_of w ≡ o → (os : Option (List Said)) → tokens_of ws ≡ os → with_token o os ≡ Some ts → ((us : List Said) → tokens_of ws ≡ Some us → All Typable us × (words_given us ≡ ws)) → All Typable ts × (words_given ts ≡ w ∷ ws)
+    by : (o : Option Said) → token_of w ≡ o → (os : Option (List Said)) → tokens_of ws ≡ os → with_token o os ≡ Some ts → ((us : List Said) → tokens_of ws ≡ Some us → AllByRecursion Typable us × (words_given us ≡ ws)) → AllByRecursion Typable ts × (words_given ts ≡ w ∷ ws)
     by None a os b k ih = let z : ◌≡◌ {A = ℕ} 0 1 = cc in absurd (omega arith)
     by (Some t) a None b k ih = let z : ◌≡◌ {A = ℕ} 0 1 = cc in absurd (omega arith)
     by (Some t) a (Some us) b k ih =
