@@ -18,6 +18,11 @@ mod words;
 pub use arrangement::perform_all;
 pub use books::{ClosedBook, MOST_WORDS, TakingBook};
 pub use calls::{Answer, Call};
+// The kinds of label, which stand in a crate of their own.
+pub use labels::{
+    Bare, FrameLabel, Label, RestLabel, SoundingNote, SyllableLabel, WrittenNote, kind_of,
+    same_label,
+};
 pub use linking::Listed;
 pub use readings::Reading;
 pub use words::{Either, Node, Takable};

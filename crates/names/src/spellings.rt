@@ -45,14 +45,15 @@ pub(crate) fn spelling(naming: Naming, pitch: Pitch) -> &'static [u8]
 fn lettered(naming: Naming, first: u8) -> Option<Step>
     ensures { result ≡ lettered_step naming first }
 {
-    match (first, naming) {
-        (b'C', _) => Some(Step::C),
-        (b'D', _) => Some(Step::D),
-        (b'E', _) => Some(Step::E),
-        (b'F', _) => Some(Step::F),
-        (b'G', _) => Some(Step::G),
-        (b'A', _) => Some(Step::A),
-        (b'B', _) | (b'H', Naming::German) => Some(Step::B),
+    match first as char {
+        'C' => Some(Step::C),
+        'D' => Some(Step::D),
+        'E' => Some(Step::E),
+        'F' => Some(Step::F),
+        'G' => Some(Step::G),
+        'A' => Some(Step::A),
+        'B' => Some(Step::B),
+        'H' if naming == Naming::German => Some(Step::B),
         _ => None,
     }
 }
