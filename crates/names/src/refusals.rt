@@ -44,7 +44,7 @@ pub struct Fault {
     pub byte: usize,
 }
 
-// Written out, since a derived `==` tells its callers nothing past sixteen variants.
+// Written out, so that its contract says in so many words that it tells the same refusals from different ones.
 impl PartialEq for Refusal {
     ghost eq = { same_refusal };
 

@@ -32,6 +32,6 @@ pub record LinesBack : Type 0 where
   pub same : (n : Naming) (ws : List Word) (ts : List Said) → tokens_of ws ≡ Some ts → length (line n ts) ≤ 65536 → map said_of (text_words Written (line n ts)) ≡ ws
   pub fine : (n : Naming) (ws : List Word) (ts : List Said) → tokens_of ws ≡ Some ts → length (line n ts) ≤ 65536 → (text_told (line n ts)).fault ≡ None
 
--- the children of the passage that ends at p are the passages that end where child-ends says
+-- the children of the passage that ends at p are the passages that end where child_ends says
 pub record Children : Type 0 where
   pub are : (ws : List Word) (p : ℕ) (s : List ℕ) (ts : Row) → Formed ws → p < length ws → passage_at ws p ≡ over s ts → map (passage_at ws) (child_ends (start_at ws) (count ts) p) ≡ in_order ts
