@@ -47,7 +47,7 @@ impl Label for FrameLabel {
     fn spelled_at(&self, place: u16) -> u16 {
         match place {
             0 => Self::KIND,
-            1 => self.keyword.number() as u16,
+            1 => self.keyword as u16,
             _ => 0,
         }
     }

@@ -6,7 +6,7 @@ ghost use Rattle.names.specs.Tokens.{lasting, sung};
 pub(crate) fn is_length(number: u8) -> bool
     ensures { result ≡ lasting number }
 {
-    number >= 1 && number <= 64
+    (1..=64).contains(&number)
 }
 
 // An octave is a number from 0 to 9.

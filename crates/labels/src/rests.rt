@@ -17,10 +17,7 @@ impl RestLabel {
     pub fn new(length: u8) -> Option<RestLabel>
         ensures { option_map (λ n. rest_spelling (byte n.length)) result ≡ rest_made length }
     {
-        if !is_length(length) {
-            return None;
-        }
-        Some(RestLabel { length })
+        is_length(length).then_some(RestLabel { length })
     }
 }
 
@@ -52,7 +49,7 @@ impl Label for RestLabel {
     fn spelled_at(&self, place: u16) -> u16 {
         match place {
             0 => Self::KIND,
-            1 => self.length as u16,
+            1 => u16::from(self.length),
             _ => 0,
         }
     }

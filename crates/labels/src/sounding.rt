@@ -6,7 +6,6 @@ ghost use Rattle.labels.specs.Kinds.{sounding_spells};
 
 use crate::labels::Label;
 use crate::limits::is_sung;
-use crate::written::raise;
 use names::{Pitch, Step};
 
 // `sounds` is the sounding number + 2, from 0 to 123.
@@ -21,11 +20,10 @@ impl SoundingNote {
     pub fn new(pitch: Pitch, octave: u8, length: u8) -> Option<SoundingNote>
         ensures { option_map (λ n. sounding_spelling (byte n.sounds) (byte n.length)) result ≡ sounding_made pitch octave length }
     {
-        if !is_sung(octave, length) {
-            return None;
-        }
-        let sounds = sounding_raised(pitch, octave);
-        Some(SoundingNote { sounds, length })
+        is_sung(octave, length).then(|| SoundingNote {
+            sounds: sounding_raised(pitch, octave),
+            length,
+        })
     }
 }
 
@@ -35,23 +33,17 @@ fn sounding_raised(pitch: Pitch, octave: u8) -> u8
     ensures value { result ≡ sounding pitch octave }
     ensures low { result ≤ 123 }
 {
-    12 * octave + half_tones(pitch.step) + raise(pitch.alteration)
+    12 * octave + half_tones(pitch.step) + pitch.alteration as u8
 }
 
-// The half tones from C up to the step.
+// The half tones from C up to each step.
+static HALF_TONES: [u8; 7] = [0, 2, 4, 5, 7, 9, 11];
+
 fn half_tones(step: Step) -> u8
     ensures value { result ≡ half_tones step }
     ensures low { result ≤ 11 }
 {
-    match step {
-        Step::C => 0,
-        Step::D => 2,
-        Step::E => 4,
-        Step::F => 5,
-        Step::G => 7,
-        Step::A => 9,
-        Step::B => 11,
-    }
+    HALF_TONES[step as usize]
 }
 
 impl Label for SoundingNote {
@@ -82,8 +74,8 @@ impl Label for SoundingNote {
     fn spelled_at(&self, place: u16) -> u16 {
         match place {
             0 => Self::KIND,
-            1 => self.sounds as u16,
-            2 => self.length as u16,
+            1 => u16::from(self.sounds),
+            2 => u16::from(self.length),
             _ => 0,
         }
     }

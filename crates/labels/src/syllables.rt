@@ -16,10 +16,7 @@ impl<'a> SyllableLabel<'a> {
     pub fn new(bytes: &'a [u8]) -> Option<SyllableLabel<'a>>
         ensures { option_map (λ s. syllable_spelling (bytes_of s.bytes.now)) result ≡ syllable_made bytes.now }
     {
-        if !is_syllable(bytes) {
-            return None;
-        }
-        Some(SyllableLabel { bytes })
+        is_syllable(bytes).then_some(SyllableLabel { bytes })
     }
 }
 
@@ -27,7 +24,7 @@ impl<'a> SyllableLabel<'a> {
 fn is_syllable(bytes: &[u8]) -> bool
     ensures { result ≡ syllabic bytes.now }
 {
-    bytes.len() >= 1 && bytes.len() <= 30
+    (1..=30).contains(&bytes.len())
 }
 
 // How many numbers spell the bytes.

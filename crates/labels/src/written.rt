@@ -20,27 +20,11 @@ impl WrittenNote {
     pub fn new(pitch: Pitch, octave: u8, length: u8) -> Option<WrittenNote>
         ensures { option_map (λ n. written_spelling n.pitch (byte n.octave) (byte n.length)) result ≡ written_made pitch octave length }
     {
-        if !is_sung(octave, length) {
-            return None;
-        }
-        Some(WrittenNote {
+        is_sung(octave, length).then_some(WrittenNote {
             pitch,
             octave,
             length,
         })
-    }
-}
-
-// The alteration + 2, which is never below 0.
-pub(crate) fn raise(alteration: Alteration) -> u8
-    ensures { result ≡ raised alteration }
-{
-    match alteration {
-        Alteration::DoubleFlat => 0,
-        Alteration::Flat => 1,
-        Alteration::Natural => 2,
-        Alteration::Sharp => 3,
-        Alteration::DoubleSharp => 4,
     }
 }
 
@@ -72,10 +56,10 @@ impl Label for WrittenNote {
     fn spelled_at(&self, place: u16) -> u16 {
         match place {
             0 => Self::KIND,
-            1 => self.pitch.step.number() as u16,
-            2 => raise(self.pitch.alteration) as u16,
-            3 => self.octave as u16,
-            4 => self.length as u16,
+            1 => self.pitch.step as u16,
+            2 => self.pitch.alteration as u16,
+            3 => u16::from(self.octave),
+            4 => u16::from(self.length),
             _ => 0,
         }
     }

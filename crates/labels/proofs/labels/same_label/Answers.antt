@@ -1,16 +1,21 @@
-use Rattle.std.proofs.Common.{◌≡◌, ℕ, ◌+◌, ◌<◌, ◌≤◌, true, eqb, List, length, get_or, take, sym, refl, ◌∙◌, arith}
-use Rattle.std.proofs.lemmas.List.{take_more_same, take_all}
-use Rattle.std.proofs.lemmas.Bool.{eqb-true}
+use Rattle.std.proofs.Common.{rules, ◌≡◌, ℕ, ◌<◌, true, false, Bool, List, length, get_or, refl, ap, subst, arith}
+use Rattle.std.specs.Bool.{MatchBool}
+use Rattle.std.specs.List.{range_with_len, AllWithin, HoldsAt}
+use Rattle.std.proofs.lemmas.Iterator.{cases_from_all, YieldsList-from_range}
+use Rattle.std.proofs.lemmas.List.{ext_get_or}
+use Rattle.std.proofs.lemmas.List.FromFn.{length-range_with_len, get_or-range_with_len}
+use borrow.Author.Tests.{tests}
 use Rattle.labels.proofs.labels.same_label.Goals as goal
 
-one_more : (s t : List ℕ) (i : ℕ) → i < length s → i < length t → take i s ≡ take i t → true ≡ eqb (get_or s i 0) (get_or t i 0) → take (i + 1) s ≡ take (i + 1) t
-one_more s t i a b same e = take_more_same s t i 0 a b same (eqb-true (get_or s i 0) (get_or t i 0) (sym e))
+-- lists of one length are the same where they agree at each place
+agree : (s t : List ℕ) (n : ℕ) (r : Bool) → length s ≡ n → length t ≡ n → MatchBool r (AllWithin (λ k. get_or s k 0 ≡ get_or t k 0) (range_with_len 0 n) 0 (length (range_with_len 0 n))) ((k : ℕ) × (k < length (range_with_len 0 n)) × HoldsAt (λ k. get_or s k 0 ≡ get_or t k 0 → ⊥) (range_with_len 0 n) k) → (r ≡ true → s ≡ t) × (s ≡ t → r ≡ true)
+agree s t n true a b all =
+    (λ _. ext_get_or 0 s t (omega arith) (λ k h. let at : get_or (range_with_len 0 n) k 0 ≡ k = omega (arith, get_or-range_with_len 0 n k 0 (omega arith)) in subst (λ i. get_or s i 0 ≡ get_or t i 0) at (all k 0 (omega arith) (omega (arith, length-range_with_len 0 n)))), λ _. refl)
+agree s t n false a b (k, below, differ) = (λ e. cc, λ e. absurd (differ 0 (ap (λ xs. get_or xs (get_or (range_with_len 0 n) k 0) 0) e)))
 
-all_same : (s t : List ℕ) (i : ℕ) → length s ≤ i → length t ≤ i → take i s ≡ take i t → s ≡ t
-all_same s t i a b same = sym (take_all i s a) ∙ (same ∙ take_all i t b)
-
-pub loop-place-preserved : goal.loop-place-preserved
-loop-place-preserved g c = one_more _ _ c.loop-place.place (omega arith) (omega arith) c.loop-place.invariant c.if-not-same_at.ensures
-
-pub returns : goal.returns
-returns g c = (λ _. all_same _ _ c.loop-place.place (omega arith) (omega arith) c.loop-place.invariant, λ _. refl)
+pub returns-then-spelled_len-len : goal.returns-then-spelled_len-len
+returns-then-spelled_len-len g c =
+    let s = g.L.Label.spelling c.args.left.now in
+    let t = g.M.Label.spelling c.args.right.now in
+    let n = c.spelled_len-len.result in
+    agree s t n _ (omega arith) (omega arith) (cases_from_all _ _ _ (λ k. get_or s k 0 ≡ get_or t k 0) (λ k. get_or s k 0 ≡ get_or t k 0 → ⊥) c.all.ensures.ran (YieldsList-from_range 0 n n refl (omega arith)) (λ x q k. search (rules, tests)) (λ x q k. search (rules, tests)))
