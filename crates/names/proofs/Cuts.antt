@@ -2,11 +2,12 @@
 use Rattle.std.proofs.Common.{◌≡◌, ℕ, zero, suc, ◌+◌, ◌-◌, ◌<◌, ◌≤◌, Bool, true, false, not, ◌⊎◌, List, [], ◌∷◌, ◌++◌, length, get_or, take, drop, Ok, Err, Option, sym, refl, ap, ◌∙◌, inl, inr, arith}
 use Rattle.std.proofs.lemmas.List.{drop_more, drop_all, drop-drop, take-append-drop, length-drop, get_or-take, get_or-drop, length-take-le}
 use Rattle.std.proofs.lemmas.Bool.{cond-true, cond-false, and_parts, and_from, cases_lt}
+use Rattle.std.proofs.lemmas.List.Sums.{prefix_len-le-length, prefix_len_passes, prefix_len_stops}
 use Rattle.names.specs.declared.pitches.Naming.{Naming}
 use Rattle.names.specs.declared.refusals.Refusal.{Refusal}
-use Rattle.names.specs.Cutting.{Skipped, Ended}
+use Rattle.names.specs.Cutting.{Stretch, Skipped, Ended, same_answer}
 use Rattle.names.specs.Texts.{Piece, goes_on, before, pieces, told, telling, silent, stopped, naming_after}
-use Rattle.names.specs.Tokens.{Said, gap, each, token_read}
+use Rattle.names.specs.Tokens.{Said, gap, each, run, token_read}
 
 abbrev pub solid : ℕ → Bool
 solid b = not (gap b)
@@ -118,3 +119,42 @@ pub told_token : (n m : Option Naming) (ps rest : List Piece) (p : Piece) (t : S
 unfolding told
 told_token n m ps rest p t e f g =
     ap (told n) e ∙ ap (λ x. telling p n x (λ m. told m rest)) f ∙ ap (λ k. record { tokens = record { byte = p.byte; typed = p.bytes; says = t } ∷ (told k rest).tokens; fault = (told k rest).fault }) (sym g)
+
+-- a run from a place on is a stretch
+module _ (g : Bool) (text : List ℕ) (at : ℕ) where
+  abbrev answers : ℕ → Bool
+  answers b = same_answer (gap b) g
+
+  answered : (a h : Bool) → same_answer a h ≡ true → a ≡ h
+  answered a true e = e
+  answered true false e = absurd (cc)
+  answered false false e = refl
+
+  unanswered : (a h : Bool) → same_answer a h ≡ false → a ≡ not h
+  unanswered a true e = e
+  unanswered true false e = refl
+  unanswered false false e = absurd (cc)
+
+  pub stretch_from : (n : ℕ) → at ≤ length text → n ≡ run answers (drop at text) → Stretch g (not g) text at (at + n)
+  stretch_from n h e =
+      let rest = drop at text in
+      let l = length-drop at text in
+      let w = prefix_len-le-length answers rest in
+      record {
+        forth = omega arith;
+        within = λ _. omega arith;
+        all =
+            λ k low high.
+            let p = prefix_len_passes answers rest (k - at) 0 (omega arith) in
+            let i : at + (k - at) ≡ k = omega arith in
+            let b : get_or rest (k - at) 0 ≡ get_or text k 0 = get_or-drop at text (k - at) 0 ∙ ap (λ j. get_or text j 0) i in
+            (omega arith, answered _ g (ap answers (sym b) ∙ p));
+        ends =
+            λ low.
+            let p = prefix_len_stops answers rest 0 (omega arith) in
+            let b : get_or rest (run answers rest) 0 ≡ get_or text (at + n) 0 = get_or-drop at text (run answers rest) 0 ∙ ap (λ j. get_or text (at + j) 0) (sym e) in
+            unanswered _ g (ap answers (sym b) ∙ p);
+      }
+
+  pub stretch_past : length text < at → Stretch g (not g) text at at
+  stretch_past h = record { forth = omega arith; within = λ l. l; all = λ k low high. absurd (omega arith); ends = λ low. absurd (omega arith) }

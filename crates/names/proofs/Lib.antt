@@ -6,6 +6,7 @@ pub mod Numbers
 pub mod Parting
 pub mod Picks
 pub mod Reading
+pub mod Refusing
 pub mod Scanning
 pub mod TokenFacts
 pub mod Words

@@ -3,6 +3,7 @@ use Rattle.std.proofs.Common.{◌≡◌, ℕ, ◌+◌, ◌-◌, ◌<◌, ◌≤�
 use Rattle.std.proofs.lemmas.List.{at_drop_more, drop-drop}
 use Rattle.std.proofs.lemmas.Bool.{cond-true, cond-false, lt-ltb, le-ltb, and_left, and_right, and_from}
 use Rattle.std.specs.Char.{is_ascii_digit}
+use Rattle.std.proofs.lemmas.List.Sums.{prefix_len-le-length}
 use Rattle.names.specs.declared.keywords.Keyword.{Keyword}
 use Rattle.names.specs.declared.notes.NoteReader.{NoteReader}
 use Rattle.names.specs.declared.pitches.Naming.{Naming}
@@ -19,27 +20,13 @@ use Rattle.names.specs.Scanned.{start, scanned, struck}
 use Rattle.names.specs.Tokens.{Said, naming, syllable, note, each, quoted, inside, syllabled, syllable_read, run, colon, note_name, note_tail, tailed, note_read, of_pitch, of_length, length_read, rank_read, framed, frame_read, begun, read_by_kind, worded, token_read}
 use Rattle.names.proofs.Scanning.{scan_parts}
 
-pub each_more : (test : ℕ → Bool) (bs : List ℕ) (i : ℕ) → i < length bs → each test (drop i bs) ≡ (test (get_or bs i 0) && each test (drop (i + 1) bs))
-each_more test bs i h = at_drop_more (each test) bs i 0 h
-
-pub run_more : (test : ℕ → Bool) (bs : List ℕ) (i : ℕ) → i < length bs → run test (drop i bs) ≡ cond (test (get_or bs i 0)) (1 + run test (drop (i + 1) bs)) 0
-run_more test bs i h = at_drop_more (run test) bs i 0 h
-
-pub run_within : (test : ℕ → Bool) (bs : List ℕ) → run test bs ≤ length bs
-run_within test [] = omega arith
-run_within test (b ∷ bs) = by (test b) (run_within test bs)
-  where
-    by : (t : Bool) → run test bs ≤ length bs → cond t (1 + run test bs) 0 ≤ length (b ∷ bs)
-    by true h = omega arith
-    by false h = omega arith
-
 -- what the note reader found, as the note's definition has it
 module _ (bs : List ℕ) (r : NoteReader) (e : r ≡ scanned start bs) where
   pub name_is : r.name ≡ run (λ b. not (is_ascii_digit b)) bs
   name_is = ap (λ x. x.name) e ∙ (scan_parts bs).name
 
   pub name_within : r.name ≤ length bs
-  name_within = let n = name_is in let w = run_within (λ b. not (is_ascii_digit b)) bs in omega arith
+  name_within = let n = name_is in let w = prefix_len-le-length (λ b. not (is_ascii_digit b)) bs in omega arith
 
   pub front_is : take r.name bs ≡ note_name bs
   front_is = ap (λ k. take k bs) name_is

@@ -6,6 +6,7 @@ use Rattle.std.proofs.lemmas.Fmt.{length-decimal-le, decimal_nonempty}
 use Rattle.std.proofs.lemmas.Slice.Eq.{bytes_eq-Decides}
 use Rattle.std.proofs.lemmas.List.{append_assoc, take_at, drop_at, take-append-drop, get_or_at, take_more, take_all, drop_more}
 use Rattle.std.proofs.lemmas.Bool.{cond-true, and_parts, and_from, eqb-true, leb-true, le-leb, eq-eqb}
+use Rattle.std.proofs.lemmas.List.Sums.{prefix_len_stops}
 use Rattle.names.specs.declared.keywords.Keyword.{Keyword}
 use Rattle.names.specs.declared.pitches.Naming.{Naming}
 use Rattle.names.specs.declared.pitches.Naming.TheVariants.{English, German}
@@ -39,15 +40,6 @@ run_stops test (x ∷ xs) b ys e f =
     let p = and_parts (test x) (each test xs) e in
     let i = run_stops test xs b ys p.1 f in
     cond-true (test x) (1 + run test (xs ++ b ∷ ys)) 0 p.0 ∙ omega arith
-
--- the byte that ends a run does not pass
-run_ended : (test : ℕ → Bool) (xs : List ℕ) → run test xs < length xs → test (get_or xs (run test xs) 0) ≡ false
-run_ended test [] h = absurd (omega arith)
-run_ended test (x ∷ xs) h = by (test x) refl h (run_ended test xs)
-  where
-    by : (t : Bool) → test x ≡ t → cond t (1 + run test xs) 0 < length (x ∷ xs) → (run test xs < length xs → test (get_or xs (run test xs) 0) ≡ false) → test (get_or (x ∷ xs) (cond t (1 + run test xs) 0) 0) ≡ false
-    by true e h more = let s : suc (run test xs) ≡ 1 + run test xs = omega arith in rw (← s) (more (omega arith))
-    by false e h more = e
 
 -- a capital letter begins a note
 capital_named : (b : ℕ) (bs : List ℕ) → is_ascii_uppercase b ≡ true → naming_named (b ∷ bs) ≡ None
@@ -285,7 +277,7 @@ colon_whole : (bs : List ℕ) (r : ℕ) → decimal r ≡ drop (colon bs + 1) bs
 colon_whole bs r d h =
     let s = decimal_nonempty r (omega arith) in
     let l = ap length d ∙ length-drop (colon bs + 1) bs in
-    let c = run_ended (λ b. not (eqb b 58)) bs (omega arith) in
+    let c = prefix_len_stops (λ b. not (eqb b 58)) bs 0 (omega arith) in
     let e : 58 ≡ get_or bs (colon bs) 0 = grind arith in
     ap (λ xs. 58 ∷ xs) d ∙ ap (λ x. x ∷ drop (colon bs + 1) bs) e ∙ sym (drop_more bs (colon bs) 0 (omega arith))
 

@@ -1,6 +1,11 @@
 -- Where gaps and tokens end in a text. Assumes nothing.
-use Rattle.std.specs.Prelude.{◌≡◌, ℕ, ◌<◌, ◌≤◌, Bool, true, false, List, length, slice_index}
+use Rattle.std.specs.Prelude.{◌≡◌, ℕ, ◌<◌, ◌≤◌, Bool, true, false, not, List, length, slice_index}
 use Rattle.names.specs.Tokens.{gap}
+
+-- whether two answers are the same
+abbrev pub same_answer : Bool → Bool → Bool
+same_answer a true = a
+same_answer a false = not a
 
 -- from one place to the other each byte answers the test in the one way, and the next, if any, in the other
 pub record Stretch (answer other : Bool) (text : List ℕ) (from to : ℕ) : Type 0 where

@@ -1,8 +1,9 @@
 -- The keywords of frames. Assumes nothing.
-use Rattle.std.specs.Prelude.{◌≡◌, ℕ, List, [], ◌∷◌, Some, None, codes, Option, ◌≢◌, nat_eq}
+use Rattle.std.specs.Prelude.{ℕ, List, [], ◌∷◌, Some, None, codes, Option, nat_eq}
 use Rattle.std.specs.Str.{bytes_eq}
 use Rattle.names.specs.declared.keywords.Keyword.{Keyword}
 use Rattle.names.specs.declared.keywords.Keyword.TheVariants.{Bar, Verse, Chord, Sung, Score, Soprano, Alto1, Alto2, Tenor, Bass1, Bass2, Organ}
+use Rattle.names.specs.declared.keywords.NoSuchKeyword.{NoSuchKeyword}
 use Rattle.names.specs.Choice.{pick}
 
 abbrev pub keyword_number : Keyword → ℕ
@@ -43,7 +44,6 @@ keyword_numbered n = pick (λ k. nat_eq (keyword_number k) n) keywords
 unfoldable pub keyword_named : List ℕ → Option Keyword
 keyword_named bs = pick (λ k. bytes_eq (keyword_word k) bs) keywords
 
--- the keyword of a number, where it has the word
-abbrev pub Worded : ℕ → List ℕ → Option Keyword → Type 0
-Worded n bs None = (k : Keyword) → keyword_number k ≡ n → keyword_word k ≢ bs
-Worded n bs (Some k) = keyword_word k ≡ bs
+-- a number that no keyword has
+abbrev pub unnumbered : ℕ → NoSuchKeyword
+unnumbered n = record { number = n }

@@ -10,6 +10,7 @@ pub mod NameLaws
 pub mod Names
 pub mod Numbered
 pub mod Parted
+pub mod Pens
 pub mod Pitches
 pub mod Reader
 pub mod Refusals

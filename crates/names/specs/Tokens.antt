@@ -1,5 +1,6 @@
 -- Tokens: what a token says, the bytes that say it, and what bytes say. Assumes nothing.
 use Rattle.std.specs.Prelude.{ℕ, ◌+◌, ◌-◌, Bool, true, false, cond, not, ◌&&◌, ◌||◌, List, [], ◌∷◌, ◌++◌, length, take, drop, Some, None, Ok, Err, codes, decimal, Option, Result, ◌==◌, nat_le, nat_lt, slice_index}
+use Rattle.std.specs.List.{list_all, prefix_len}
 use Rattle.std.specs.Char.{is_ascii_digit, is_ascii_uppercase}
 use Rattle.names.specs.declared.pitches.Naming.{Naming}
 use Rattle.names.specs.declared.pitches.Pitch.{Pitch}
@@ -31,13 +32,11 @@ abbrev pub plain : ℕ → Bool
 plain b = not (b == 34 || gap b)
 
 abbrev pub each : (ℕ → Bool) → List ℕ → Bool
-each test [] = true
-each test (b ∷ bs) = test b && each test bs
+each = list_all
 
 -- how many bytes at the front pass the test
 abbrev pub run : (ℕ → Bool) → List ℕ → ℕ
-run test [] = 0
-run test (b ∷ bs) = cond (test b) (1 + run test bs) 0
+run = prefix_len
 
 -- a syllable between its quotes
 abbrev pub quotes : List ℕ → List ℕ

@@ -1,10 +1,7 @@
-// Decimal notation without leading zeros, read and laid over a buffer.
+// Decimal notation without leading zeros.
 ghost use Rattle.std.specs.Prelude.{◌≡◌, ◌+◌, ◌<◌, ◌≤◌, true, length, decimal, MatchOption};
 ghost use Rattle.std.specs.Str.{all_ascii_digits};
-ghost use Rattle.names.specs.Buffers.{laid};
 ghost use Rattle.names.specs.Decimals.{number_read, value_from, ill_led};
-
-use crate::buffers::lay_byte;
 
 // What the digits write, if they are digits alone and it is at most `most`.
 fn value(digits: &[u8], most: u8) -> Option<u8>
@@ -12,11 +9,11 @@ fn value(digits: &[u8], most: u8) -> Option<u8>
 {
     let mut value: u16 = 0;
     for digit in digits {
-        if *digit < b'0' || *digit > b'9' {
+        if !digit.is_ascii_digit() {
             return None;
         }
-        value = value * 10 + (*digit - b'0') as u16;
-        if value > most as u16 {
+        value = value * 10 + u16::from(*digit - b'0');
+        if value > u16::from(most) {
             return None;
         }
     }
@@ -27,7 +24,7 @@ fn value(digits: &[u8], most: u8) -> Option<u8>
 fn ill_led(digits: &[u8]) -> bool
     ensures { result ≡ ill_led digits.now }
 {
-    digits.len() == 0 || (digits[0] == b'0' && digits.len() > 1)
+    matches!(digits, [] | [b'0', _, ..])
 }
 
 // The number from `least` to `most` whose decimal notation the bytes are.
@@ -37,10 +34,8 @@ pub(crate) fn read_number(digits: &[u8], least: u8, most: u8) -> Option<u8>
     if ill_led(digits) {
         return None;
     }
-    let Some(number) = value(digits, most) else {
-        return None;
-    };
-    if number < least { None } else { Some(number) }
+    let number = value(digits, most)?;
+    (number >= least).then_some(number)
 }
 
 pub(crate) fn decimal_length(number: u32) -> usize
@@ -52,17 +47,4 @@ pub(crate) fn decimal_length(number: u32) -> usize
     } else {
         decimal_length(number / 10) + 1
     }
-}
-
-pub(crate) fn lay_decimal(out: &mut [u8], at: usize, number: u32) -> usize
-    requires { at + length (decimal number) ≤ length out.old }
-    ensures place { result ≡ at + length (decimal number) }
-    ensures after { out.new ≡ laid out.old at (decimal number) }
-{
-    let last = b'0' + (number % 10) as u8;
-    if number < 10 {
-        return lay_byte(out, at, last);
-    }
-    let place = lay_decimal(out, at, number / 10);
-    lay_byte(out, place, last)
 }

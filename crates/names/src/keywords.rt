@@ -1,8 +1,10 @@
 // The keywords of frames. Those from soprano on are voices.
 ghost use Rattle.std.specs.Prelude.{◌≡◌};
-ghost use Rattle.names.specs.Keywords.{keyword_number, keyword_numbered, keyword_word, keyword_named};
+ghost use Rattle.std.specs.Option.{ok_or};
+ghost use Rattle.names.specs.Keywords.{keyword_number, keyword_numbered, keyword_word, keyword_named, unnumbered};
 
-use crate::bytes::same_bytes;
+use std::error::Error;
+use std::fmt;
 
 #[derive(Clone, Copy, PartialEq, Eq)]
 pub enum Keyword {
@@ -20,39 +22,63 @@ pub enum Keyword {
     Organ,
 }
 
+// The keywords, by number.
+static KEYWORDS: [Keyword; 12] = [
+    Keyword::Bar,
+    Keyword::Verse,
+    Keyword::Chord,
+    Keyword::Sung,
+    Keyword::Score,
+    Keyword::Soprano,
+    Keyword::Alto1,
+    Keyword::Alto2,
+    Keyword::Tenor,
+    Keyword::Bass1,
+    Keyword::Bass2,
+    Keyword::Organ,
+];
+
 // The words, by number.
 static WORDS: [&'static [u8]; 12] = [
     b"bar", b"verse", b"chord", b"sung", b"score", b"soprano", b"alto1", b"alto2", b"tenor",
     b"bass1", b"bass2", b"organ",
 ];
 
+// A number that no keyword has.
+#[derive(Clone, Copy, PartialEq, Eq, Debug)]
+pub struct NoSuchKeyword {
+    pub number: u8,
+}
+
+impl From<Keyword> for u8 {
+    ghost from_gives = { λ keyword n. n ≡ keyword_number keyword };
+
+    fn from(keyword: Keyword) -> u8 {
+        keyword as u8
+    }
+}
+
+impl TryFrom<u8> for Keyword {
+    type Error = NoSuchKeyword;
+
+    ghost try_from_gives = { λ n r. r ≡ ok_or (keyword_numbered n) (unnumbered n) };
+
+    fn try_from(number: u8) -> Result<Keyword, NoSuchKeyword> {
+        let keyword = KEYWORDS.get(usize::from(number)).copied();
+        keyword.ok_or(NoSuchKeyword { number })
+    }
+}
+
+impl fmt::Display for NoSuchKeyword {
+    fn fmt<W: fmt::Write>(&self, f: &mut fmt::Formatter<W>) -> fmt::Result {
+        let number = self.number;
+        write!(f, "no keyword has the number {number}")
+    }
+}
+
+impl Error for NoSuchKeyword {}
+
 impl Keyword {
-    pub fn number(self) -> u8
-        ensures { result ≡ keyword_number self }
-    {
-        self as u8
-    }
-
-    pub fn numbered(number: u8) -> Option<Keyword>
-        ensures { result ≡ keyword_numbered number }
-    {
-        match number {
-            0 => Some(Keyword::Bar),
-            1 => Some(Keyword::Verse),
-            2 => Some(Keyword::Chord),
-            3 => Some(Keyword::Sung),
-            4 => Some(Keyword::Score),
-            5 => Some(Keyword::Soprano),
-            6 => Some(Keyword::Alto1),
-            7 => Some(Keyword::Alto2),
-            8 => Some(Keyword::Tenor),
-            9 => Some(Keyword::Bass1),
-            10 => Some(Keyword::Bass2),
-            11 => Some(Keyword::Organ),
-            _ => None,
-        }
-    }
-
     pub fn word(self) -> &'static [u8]
         ensures { result.now ≡ keyword_word self }
     {
@@ -60,17 +86,13 @@ impl Keyword {
     }
 
     // The keyword whose word the bytes are.
+    #[tactic(auto, unfolding(crate::specs::Keywords::keyword_named))]
     pub fn named(word: &[u8]) -> Option<Keyword>
         ensures { result ≡ keyword_named word.now }
     {
-        for number in 0..12 {
-            let Some(keyword) = Keyword::numbered(number) else {
-                continue;
-            };
-            if same_bytes(keyword.word(), word) {
-                return Some(keyword);
-            }
-        }
-        None
+        KEYWORDS
+            .iter()
+            .copied()
+            .find(|keyword| keyword.word() == word)
     }
 }

@@ -1,12 +1,12 @@
 // The lowest library: note names, tokens, texts, and everything that the project refuses.
 #![tactic(auto)]
 
-mod buffers;
-mod bytes;
 mod decimals;
 pub mod exports;
 mod keywords;
+mod limits;
 mod notes;
+mod pen;
 mod pitches;
 mod refusals;
 mod spellings;
@@ -14,7 +14,8 @@ mod texts;
 mod tokens;
 mod writing;
 
-pub use keywords::Keyword;
+pub use keywords::{Keyword, NoSuchKeyword};
+pub use limits::{is_length, is_sung};
 pub use pitches::{Alteration, Naming, Pitch, Step};
 pub use refusals::{Fault, Layer, Refusal};
 pub use spellings::{read_name, write_name};

@@ -1,8 +1,10 @@
 // Pitches as they are written: a step of the scale and how it is altered. The numbers are those of the format.
 ghost use Rattle.std.specs.Prelude.{◌≡◌};
+ghost use Rattle.std.specs.Option.{ok_or};
+ghost use Rattle.names.specs.declared.refusals.Refusal.TheVariants.{OutOfRange};
 ghost use Rattle.names.specs.Pitches.{naming_number, naming_numbered, naming_word, naming_named, step_number, step_numbered, alteration_number, alteration_numbered};
 
-use crate::bytes::same_bytes;
+use crate::refusals::Refusal;
 
 // The list of names in which notes are read or written.
 #[derive(Clone, Copy, PartialEq, Eq)]
@@ -37,37 +39,36 @@ pub struct Pitch {
     pub alteration: Alteration,
 }
 
-impl Naming {
-    pub fn number(self) -> u8
-        ensures { result ≡ naming_number self }
-    {
-        match self {
-            Naming::English => 0,
-            Naming::German => 1,
-        }
-    }
+impl From<Naming> for u8 {
+    ghost from_gives = { λ naming n. n ≡ naming_number naming };
 
-    pub fn numbered(number: u8) -> Option<Naming>
-        ensures { result ≡ naming_numbered number }
-    {
+    fn from(naming: Naming) -> u8 {
+        naming as u8
+    }
+}
+
+impl TryFrom<u8> for Naming {
+    type Error = Refusal;
+
+    ghost try_from_gives = { λ n r. r ≡ ok_or (naming_numbered n) OutOfRange };
+
+    fn try_from(number: u8) -> Result<Naming, Refusal> {
         match number {
-            0 => Some(Naming::English),
-            1 => Some(Naming::German),
-            _ => None,
+            0 => Ok(Naming::English),
+            1 => Ok(Naming::German),
+            _ => Err(Refusal::OutOfRange),
         }
     }
+}
 
+impl Naming {
     // The naming that a word sets.
     pub fn named(word: &[u8]) -> Option<Naming>
         ensures { result ≡ naming_named word.now }
     {
-        if same_bytes(Naming::English.word(), word) {
-            return Some(Naming::English);
-        }
-        if same_bytes(Naming::German.word(), word) {
-            return Some(Naming::German);
-        }
-        None
+        [Naming::English, Naming::German]
+            .into_iter()
+            .find(|naming| naming.word() == word)
     }
 
     // The word that sets the naming in a text.
@@ -81,34 +82,38 @@ impl Naming {
     }
 }
 
-impl Step {
-    pub fn number(self) -> u8
-        ensures { result ≡ step_number self }
-    {
-        self as u8
-    }
+impl From<Step> for u8 {
+    ghost from_gives = { λ step n. n ≡ step_number step };
 
-    pub fn numbered(number: u8) -> Option<Step>
-        ensures { result ≡ step_numbered number }
-    {
+    fn from(step: Step) -> u8 {
+        step as u8
+    }
+}
+
+impl TryFrom<u8> for Step {
+    type Error = Refusal;
+
+    ghost try_from_gives = { λ n r. r ≡ ok_or (step_numbered n) OutOfRange };
+
+    fn try_from(number: u8) -> Result<Step, Refusal> {
         match number {
-            0 => Some(Step::C),
-            1 => Some(Step::D),
-            2 => Some(Step::E),
-            3 => Some(Step::F),
-            4 => Some(Step::G),
-            5 => Some(Step::A),
-            6 => Some(Step::B),
-            _ => None,
+            0 => Ok(Step::C),
+            1 => Ok(Step::D),
+            2 => Ok(Step::E),
+            3 => Ok(Step::F),
+            4 => Ok(Step::G),
+            5 => Ok(Step::A),
+            6 => Ok(Step::B),
+            _ => Err(Refusal::OutOfRange),
         }
     }
 }
 
-impl Alteration {
-    pub fn number(self) -> i8
-        ensures { result ≡ alteration_number self }
-    {
-        match self {
+impl From<Alteration> for i8 {
+    ghost from_gives = { λ alteration n. n ≡ alteration_number alteration };
+
+    fn from(alteration: Alteration) -> i8 {
+        match alteration {
             Alteration::DoubleFlat => -2,
             Alteration::Flat => -1,
             Alteration::Natural => 0,
@@ -116,17 +121,21 @@ impl Alteration {
             Alteration::DoubleSharp => 2,
         }
     }
+}
 
-    pub fn numbered(number: i8) -> Option<Alteration>
-        ensures { result ≡ alteration_numbered number }
-    {
+impl TryFrom<i8> for Alteration {
+    type Error = Refusal;
+
+    ghost try_from_gives = { λ n r. r ≡ ok_or (alteration_numbered n) OutOfRange };
+
+    fn try_from(number: i8) -> Result<Alteration, Refusal> {
         match number {
-            -2 => Some(Alteration::DoubleFlat),
-            -1 => Some(Alteration::Flat),
-            0 => Some(Alteration::Natural),
-            1 => Some(Alteration::Sharp),
-            2 => Some(Alteration::DoubleSharp),
-            _ => None,
+            -2 => Ok(Alteration::DoubleFlat),
+            -1 => Ok(Alteration::Flat),
+            0 => Ok(Alteration::Natural),
+            1 => Ok(Alteration::Sharp),
+            2 => Ok(Alteration::DoubleSharp),
+            _ => Err(Refusal::OutOfRange),
         }
     }
 }

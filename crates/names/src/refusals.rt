@@ -62,48 +62,26 @@ impl Eq for Refusal {
     ghost laws = { Prim.search (comparing, rules) };
 }
 
-// The number and the layer of each refusal, in the order of the list.
-static LISTED: [(u8, Layer); 18] = [
-    (10, Layer::Text),
-    (11, Layer::Text),
-    (12, Layer::Text),
-    (13, Layer::Text),
-    (21, Layer::Name),
-    (22, Layer::Name),
-    (23, Layer::Text),
-    (31, Layer::Book),
-    (32, Layer::Book),
-    (33, Layer::Book),
-    (41, Layer::Book),
-    (42, Layer::Book),
-    (43, Layer::Book),
-    (51, Layer::Sheet),
-    (52, Layer::Sheet),
-    (53, Layer::Sheet),
-    (54, Layer::Name),
-    (54, Layer::Sheet),
-];
-
-// The reasons in words, in the same order.
-static REASONS: [&'static str; 18] = [
-    "the text is longer than 65536 bytes",
-    "the token is longer than 64 bytes",
-    "this is no frame such as bar:2 and no syllable such as \"la\"",
-    "a note stands before the first word german or english",
-    "there is no such naming, step or alteration",
-    "the note's name is not in the list of its naming",
-    "the octave is not one digit or the length is not /1 to /64",
-    "the word asks for more passages than are open",
-    "the book holds 4096 words already",
-    "the register has too few free places for the word",
-    "no word stands at that position",
-    "there is no repeat of that number",
-    "the table is too short for the ends of the repeat",
-    "the book does not hold exactly one score",
-    "the score has no such voice",
-    "a word to be printed is none that can be typed",
-    "the buffer is too short for the name",
-    "the buffer is too short",
+// The number, the layer and the reason in words of each refusal, in the order of the list.
+static LISTED: [(u8, Layer, &'static str); 18] = [
+    (10, Layer::Text, "the text is longer than 65536 bytes"),
+    (11, Layer::Text, "the token is longer than 64 bytes"),
+    (12, Layer::Text, "this is no frame such as bar:2 and no syllable such as \"la\""),
+    (13, Layer::Text, "a note stands before the first word german or english"),
+    (21, Layer::Name, "there is no such naming, step or alteration"),
+    (22, Layer::Name, "the note's name is not in the list of its naming"),
+    (23, Layer::Text, "the octave is not one digit or the length is not /1 to /64"),
+    (31, Layer::Book, "the word asks for more passages than are open"),
+    (32, Layer::Book, "the book holds 4096 words already"),
+    (33, Layer::Book, "the register has too few free places for the word"),
+    (41, Layer::Book, "no word stands at that position"),
+    (42, Layer::Book, "there is no repeat of that number"),
+    (43, Layer::Book, "the table is too short for the ends of the repeat"),
+    (51, Layer::Sheet, "the book does not hold exactly one score"),
+    (52, Layer::Sheet, "the score has no such voice"),
+    (53, Layer::Sheet, "a word to be printed is none that can be typed"),
+    (54, Layer::Name, "the buffer is too short for the name"),
+    (54, Layer::Sheet, "the buffer is too short"),
 ];
 
 impl Refusal {
@@ -120,11 +98,11 @@ impl Refusal {
     }
 }
 
-impl Layer {
-    pub fn number(self) -> u8
-        ensures { result ≡ layer_number self }
-    {
-        self as u8
+impl From<Layer> for u8 {
+    ghost from_gives = { λ layer n. n ≡ layer_number layer };
+
+    fn from(layer: Layer) -> u8 {
+        layer as u8
     }
 }
 
@@ -145,6 +123,16 @@ impl Fault {
 // The reason in words, for people.
 impl fmt::Display for Refusal {
     fn fmt<W: fmt::Write>(&self, f: &mut fmt::Formatter<W>) -> fmt::Result {
-        f.write_str(REASONS[*self as usize])
+        f.write_str(LISTED[*self as usize].2)
+    }
+}
+
+// As it is printed, for people: the number, the byte and the reason.
+impl fmt::Display for Fault {
+    fn fmt<W: fmt::Write>(&self, f: &mut fmt::Formatter<W>) -> fmt::Result {
+        let number = self.number();
+        let byte = self.byte;
+        let refusal = self.refusal;
+        write!(f, "refused {number} byte {byte}: {refusal}")
     }
 }

@@ -5,8 +5,6 @@ ghost use Rattle.names.specs.Letters.{lettered_step, ended, alteration_at};
 ghost use Rattle.names.specs.NameLaws.{NameLists};
 ghost use Rattle.names.specs.Names.{name, pitch_read, name_written};
 
-use crate::buffers::lay;
-use crate::bytes::same_bytes;
 use crate::pitches::{Alteration, Naming, Pitch, Step};
 use crate::refusals::Refusal;
 
@@ -62,18 +60,15 @@ fn lettered(naming: Naming, first: u8) -> Option<Step>
 fn ending(suffix: &[u8]) -> Alteration
     ensures { result ≡ ended suffix.now }
 {
-    let count = suffix.len();
-    if count == 0 {
-        return Alteration::Natural;
-    }
-    match suffix[0] {
-        b'#' if count == 1 => Alteration::Sharp,
-        b'#' => Alteration::DoubleSharp,
-        b'i' if count == 2 => Alteration::Sharp,
-        b'i' => Alteration::DoubleSharp,
-        b'e' if count == 2 => Alteration::Flat,
-        b'e' => Alteration::DoubleFlat,
-        _ if count == 1 => Alteration::Flat,
+    match suffix {
+        [] => Alteration::Natural,
+        [b'#'] => Alteration::Sharp,
+        [b'#', ..] => Alteration::DoubleSharp,
+        [b'i', _] => Alteration::Sharp,
+        [b'i', ..] => Alteration::DoubleSharp,
+        [b'e', _] => Alteration::Flat,
+        [b'e', ..] => Alteration::DoubleFlat,
+        [_] => Alteration::Flat,
         _ => Alteration::DoubleFlat,
     }
 }
@@ -93,17 +88,15 @@ pub fn read_name(naming: Naming, name: &[u8]) -> Result<Pitch, Refusal>
     ensures value { result ≡ pitch_read naming name.now }
     ensures lists { NameLists }
 {
-    let Some((first, rest)) = name.split_first() else {
+    let [first, rest @ ..] = name else {
         return Err(Refusal::UnknownName);
     };
-    let Some(step) = lettered(naming, *first) else {
-        return Err(Refusal::UnknownName);
-    };
+    let step = lettered(naming, *first).ok_or(Refusal::UnknownName)?;
     let pitch = Pitch {
         step,
         alteration: altered(naming, *first, rest),
     };
-    if same_bytes(spelling(naming, pitch), name) {
+    if spelling(naming, pitch) == name {
         Ok(pitch)
     } else {
         Err(Refusal::UnknownName)
@@ -119,5 +112,6 @@ pub fn write_name(naming: Naming, pitch: Pitch, out: &mut [u8]) -> Result<usize,
     if name.len() > out.len() {
         return Err(Refusal::NameBufferTooShort);
     }
-    Ok(lay(out, 0, name))
+    out[..name.len()].copy_from_slice(name);
+    Ok(name.len())
 }

@@ -1,10 +1,11 @@
 // Texts: cut into tokens, and read token by token.
 ghost use Rattle.std.specs.Prelude.{◌≡◌, ℕ, ◌+◌, ◌<◌, ◌≤◌, not, length, None, OnOk};
-ghost use Rattle.names.specs.Cutting.{Skipped, Ended};
+ghost use Rattle.names.specs.Cutting.{Stretch, same_answer};
 ghost use Rattle.names.specs.Reader.{CutsFirst, unread, told_next, Lends, opened, opening};
 ghost use Rattle.names.specs.Heard.{said};
 ghost use Rattle.names.specs.Texts.{first_of, later, naming_after, pieces, told};
 ghost use Rattle.names.specs.TextLaws.{TextLaws};
+ghost use Rattle.names.specs.Tokens.{gap, run};
 
 use crate::pitches::Naming;
 use crate::refusals::{Fault, Refusal};
@@ -34,34 +35,33 @@ pub struct Reader<'a> {
     naming: Option<Naming>,
 }
 
-// The place of the first byte from `at` on that is of a token, or the text's length.
-fn skip_gaps(text: &[u8], at: usize) -> usize
-    ensures { Skipped text.now at result }
+// How many bytes at the front are gaps, or are none.
+fn run_len(bytes: &[u8], gaps: bool) -> usize
+    ensures value { result ≡ run (λ b. same_answer (gap b) gaps) bytes.now }
+    ensures within { result ≤ length bytes.now }
 {
-    let mut end = at;
-    while end < text.len() && is_gap(text[end]) {
-        end += 1;
-    }
-    end
+    bytes
+        .iter()
+        .take_while(|byte| is_gap(**byte) == gaps)
+        .count()
 }
 
-// The place behind the token that begins at `at`.
-fn token_end(text: &[u8], at: usize) -> usize
-    ensures { Ended text.now at result }
+// The place behind the gaps from `at` on, or behind the token that begins there.
+fn stretch_end(text: &[u8], at: usize, gaps: bool) -> usize
+    ensures { Stretch gaps (not gaps) text.now at result }
 {
-    let mut end = at;
-    while end < text.len() && !is_gap(text[end]) {
-        end += 1;
+    match text.get(at..) {
+        Some(rest) => at + run_len(rest, gaps),
+        None => at,
     }
-    end
 }
 
 // The first token from `at` on. The next one is the first from its end on.
 pub fn next_cut<'a>(text: &'a [u8], at: usize) -> Option<Cut<'a>>
     ensures { CutsFirst text.now at result }
 {
-    let byte = skip_gaps(text, at);
-    let end = token_end(text, byte);
+    let byte = stretch_end(text, at, true);
+    let end = stretch_end(text, byte, false);
     if end == byte {
         return None;
     }
@@ -116,6 +116,7 @@ impl<'a> Reader<'a> {
         let Some(cut) = next_cut(self.text, self.at) else {
             return Ok(None);
         };
+        // Matched, where `map_err(..)?` would do: its closure borrows the cut, and the proof did not close.
         match read_token(self.naming, cut.bytes) {
             Ok(token) => {
                 self.naming = naming_after(self.naming, &token);

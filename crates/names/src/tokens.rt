@@ -42,10 +42,7 @@ pub enum Token<'a> {
 pub(crate) fn is_syllable(bytes: &[u8]) -> bool
     ensures { result ≡ syllabled bytes.now }
 {
-    if bytes.len() < 1 || bytes.len() > 30 {
-        return false;
-    }
-    all_plain(bytes)
+    (1..=30).contains(&bytes.len()) && all_plain(bytes)
 }
 
 pub(crate) fn is_gap(byte: u8) -> bool
@@ -63,32 +60,15 @@ fn is_plain(byte: u8) -> bool
 fn all_plain(bytes: &[u8]) -> bool
     ensures { result ≡ each plain bytes.now }
 {
-    for byte in bytes {
-        if !is_plain(*byte) {
-            return false;
-        }
-    }
-    true
-}
-
-fn is_quoted(bytes: &[u8]) -> bool
-    ensures { result ≡ quoted bytes.now }
-{
-    let end = bytes.len();
-    end >= 2 && bytes[0] == b'"' && bytes[end - 1] == b'"'
+    bytes.iter().all(|byte| is_plain(*byte))
 }
 
 fn read_syllable<'a>(bytes: &'a [u8]) -> Result<Token<'a>, Refusal>
     ensures { Hears bytes.now result (syllable_read bytes.now) }
 {
-    if !is_quoted(bytes) {
-        return Err(Refusal::NotOfForm);
-    }
-    let inside = &bytes[1..bytes.len() - 1];
-    if is_syllable(inside) {
-        Ok(Token::Syllable(inside))
-    } else {
-        Err(Refusal::NotOfForm)
+    match bytes {
+        [b'"', inside @ .., b'"'] if is_syllable(inside) => Ok(Token::Syllable(inside)),
+        _ => Err(Refusal::NotOfForm),
     }
 }
 
@@ -96,9 +76,7 @@ fn read_note<'a>(naming: Option<Naming>, bytes: &'a [u8]) -> Result<Token<'a>, R
     requires { length bytes.now ≤ 64 }
     ensures { Hears bytes.now result (note_read naming bytes.now) }
 {
-    let Some(naming) = naming else {
-        return Err(Refusal::NoNaming);
-    };
+    let naming = naming.ok_or(Refusal::NoNaming)?;
     let reader = scan(bytes);
     let (name, tail) = bytes.split_at(reader.name);
     let pitch = read_name(naming, name)?;
@@ -106,9 +84,7 @@ fn read_note<'a>(naming: Option<Naming>, bytes: &'a [u8]) -> Result<Token<'a>, R
         return Err(Refusal::BadOctaveOrLength);
     }
     let (_, digits) = tail.split_at(2);
-    let Some(length) = read_number(digits, 1, 64) else {
-        return Err(Refusal::BadOctaveOrLength);
-    };
+    let length = read_number(digits, 1, 64).ok_or(Refusal::BadOctaveOrLength)?;
     Ok(Token::Note(Note {
         name,
         pitch,
@@ -122,10 +98,8 @@ fn read_rest<'a>(bytes: &'a [u8]) -> Result<Token<'a>, Refusal>
     ensures { Hears bytes.now result (rest_read bytes.now) }
 {
     let (_, digits) = bytes.split_at(2);
-    match read_number(digits, 1, 64) {
-        Some(length) => Ok(Token::Rest { length }),
-        None => Err(Refusal::BadOctaveOrLength),
-    }
+    let length = read_number(digits, 1, 64).ok_or(Refusal::BadOctaveOrLength)?;
+    Ok(Token::Rest { length })
 }
 
 // How many bytes stand before the first colon.
@@ -133,52 +107,31 @@ fn before_colon(bytes: &[u8]) -> usize
     ensures value { result ≡ colon bytes.now }
     ensures within { result ≤ length bytes.now }
 {
-    for (at, byte) in bytes.iter().enumerate() {
-        if *byte == b':' {
-            return at;
-        }
-    }
-    bytes.len()
+    bytes.iter().take_while(|byte| **byte != b':').count()
 }
 
 fn after_first(bytes: &[u8]) -> &[u8]
     ensures { result.now ≡ drop 1 bytes.now }
 {
-    match bytes.split_first() {
-        Some((_, rest)) => rest,
-        None => bytes,
-    }
+    bytes.get(1..).unwrap_or(bytes)
 }
 
 fn read_frame<'a>(bytes: &'a [u8]) -> Result<Token<'a>, Refusal>
     ensures { Hears bytes.now result (frame_read bytes.now) }
 {
     let (word, rest) = bytes.split_at(before_colon(bytes));
-    let Some(keyword) = Keyword::named(word) else {
-        return Err(Refusal::NotOfForm);
-    };
-    let Some(rank) = read_number(after_first(rest), 0, 255) else {
-        return Err(Refusal::NotOfForm);
-    };
+    let keyword = Keyword::named(word).ok_or(Refusal::NotOfForm)?;
+    let rank = read_number(after_first(rest), 0, 255).ok_or(Refusal::NotOfForm)?;
     Ok(Token::Frame { keyword, rank })
-}
-
-fn begins_rest(bytes: &[u8]) -> bool
-    ensures { result ≡ rest_begun bytes.now }
-{
-    bytes.len() >= 2 && bytes[0] == b'r' && bytes[1] == b'/'
 }
 
 fn begins(bytes: &[u8]) -> Kind
     ensures { result ≡ begun bytes.now }
 {
-    if bytes.len() == 0 {
-        return Kind::Frame;
-    }
-    match bytes[0] {
-        b'"' => Kind::Syllable,
-        b'A'..=b'Z' => Kind::Note,
-        _ if begins_rest(bytes) => Kind::Rest,
+    match bytes {
+        [b'"', ..] => Kind::Syllable,
+        [b'A'..=b'Z', ..] => Kind::Note,
+        [b'r', b'/', ..] => Kind::Rest,
         _ => Kind::Frame,
     }
 }

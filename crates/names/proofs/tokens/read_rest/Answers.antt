@@ -1,13 +1,16 @@
-use Rattle.std.proofs.Common.{ap, ◌∙◌}
+use Rattle.std.proofs.Common.{Ok, Err, sym, ap, ◌∙◌}
 use Rattle.names.specs.Tokens.{rest, length_read, of_length, rest_read}
+use Rattle.names.proofs.Refusing.{had, lacked_and}
 use Rattle.names.proofs.tokens.read_rest.Goals as goal
 
-pub returns-in-Some : goal.returns-in-Some
+pub returns-in_err-length : goal.returns-in_err-length
 unfolding rest_read
-returns-in-Some c =
-    record { value = ap (λ o. of_length o rest) (c.in-Some.ensures ∙ ap length_read c.split_at.ensures.back); borrows = tt }
+returns-in_err-length c =
+    let l = lacked_and _ _ _ _ c.from_residual.result c.ok_or.ensures.value c.in_err-length.was c.from_residual.ensures.1 in
+    rw l.1 (record { value = ap (λ o. of_length o rest) (sym l.0 ∙ c.read_number.ensures ∙ ap length_read c.split_at.ensures.back); borrows = tt })
 
-pub returns-in-None : goal.returns-in-None
+pub returns : goal.returns
 unfolding rest_read
-returns-in-None c =
-    record { value = ap (λ o. of_length o rest) (c.in-None.ensures ∙ ap length_read c.split_at.ensures.back); borrows = tt }
+returns c =
+    let h = had _ _ _ _ c.ok_or.ensures.value c.in_ok-length.was in
+    record { value = ap (λ o. of_length o rest) (sym h ∙ c.read_number.ensures ∙ ap length_read c.split_at.ensures.back); borrows = tt }

@@ -2,7 +2,6 @@ use Rattle.std.proofs.Common.{◌≡◌, ℕ, ◌+◌, true, leb, [], ◌∷◌,
 use Rattle.std.proofs.lemmas.List.{length_push}
 use Rattle.std.proofs.lemmas.Bool.{le-leb}
 use Rattle.names.specs.declared.pitches.Naming.{Naming}
-use Rattle.names.specs.declared.refusals.Refusal.{Refusal}
 use Rattle.names.specs.declared.refusals.Refusal.TheVariants.{NotOfForm, BadOctaveOrLength}
 use Rattle.names.specs.declared.tokens.Token.{Token}
 use Rattle.names.specs.Heard.{said}
@@ -17,30 +16,20 @@ fit : (n : Naming) (t x : Token) (k : ℕ) → t ≡ x → malformed (said x) �
 fit n t x k e none len =
     ap Ok len ∙ ap (λ m. lengthened m (spelled n (said x))) (sym none) ∙ ap (λ y. lengthened (malformed (said y)) (spelled n (said y))) (sym e)
 
--- why a token cannot be typed that is known to be of a form
-unfit : (n : Naming) (t x : Token) (r : Refusal) → t ≡ x → malformed (said x) ≡ Some r → Err r ≡ lengthened (malformed (said t)) (spelled n (said t))
-unfit n t x r e some =
-    ap (λ m. lengthened m (spelled n (said x))) (sym some) ∙ ap (λ y. lengthened (malformed (said y)) (spelled n (said y))) (sym e)
-
 pub returns-in-Naming : goal.returns-in-Naming
 unfolding spelled
 returns-in-Naming c = fit c.args.naming c.args.token.now _ (length c.word.result.now) c.in-Naming.is refl (ap length c.word.ensures)
 
-pub returns-then-is_syllable : goal.returns-then-is_syllable
+pub returns-in-Syllable : goal.returns-in-Syllable
 unfolding spelled
-returns-then-is_syllable c =
+returns-in-Syllable c =
     fit c.args.naming c.args.token.now _ (length c.in-Syllable.bytes.now + 2) c.in-Syllable.is
     (ap (λ b. unless b NotOfForm) (sym c.is_syllable.ensures ∙ c.if-is_syllable.true))
     (sym (length_quotes c.in-Syllable.bytes.now))
 
-pub returns-else-is_syllable : goal.returns-else-is_syllable
-returns-else-is_syllable c =
-    unfit c.args.naming c.args.token.now _ NotOfForm c.in-Syllable.is
-    (ap (λ b. unless b NotOfForm) (sym c.is_syllable.ensures ∙ c.if-is_syllable.false))
-
-pub returns-then-is_sung : goal.returns-then-is_sung
+pub returns-in-Note : goal.returns-in-Note
 unfolding spelled
-returns-then-is_sung c =
+returns-in-Note c =
     let x = c.in-Note.note in
     let nm = name c.args.naming x.pitch in
     let m = length_marked (nm ++ ((48 + x.octave) ∷ [])) 47 x.length in
@@ -50,23 +39,13 @@ returns-then-is_sung c =
     fit c.args.naming c.args.token.now _ (c.name_length.result + 2 + c.decimal_length.result) c.in-Note.is
     (ap (λ b. unless b BadOctaveOrLength) (sym c.is_sung.ensures ∙ c.if-is_sung.true)) (omega arith)
 
-pub returns-else-is_sung : goal.returns-else-is_sung
-returns-else-is_sung c =
-    unfit c.args.naming c.args.token.now _ BadOctaveOrLength c.in-Note.is
-    (ap (λ b. unless b BadOctaveOrLength) (sym c.is_sung.ensures ∙ c.if-is_sung.false))
-
-pub returns-then-is_lasting : goal.returns-then-is_lasting
+pub returns-in-Rest : goal.returns-in-Rest
 unfolding spelled
-returns-then-is_lasting c =
+returns-in-Rest c =
     let m = length_marked (codes "r") 47 c.in-Rest.length in
-    let d = c.decimal_length-then-is_lasting.ensures.value ∙ ap (λ n. length (decimal n)) c.from-then-is_lasting.ensures in
-    fit c.args.naming c.args.token.now _ (2 + c.decimal_length-then-is_lasting.result) c.in-Rest.is
-    (ap (λ b. unless b BadOctaveOrLength) (sym c.is_lasting.ensures ∙ c.if-is_lasting.true)) (omega arith)
-
-pub returns-else-is_lasting : goal.returns-else-is_lasting
-returns-else-is_lasting c =
-    unfit c.args.naming c.args.token.now _ BadOctaveOrLength c.in-Rest.is
-    (ap (λ b. unless b BadOctaveOrLength) (sym c.is_lasting.ensures ∙ c.if-is_lasting.false))
+    let d = c.decimal_length-in-Rest.ensures.value ∙ ap (λ n. length (decimal n)) c.from-in-Rest.ensures in
+    fit c.args.naming c.args.token.now _ (2 + c.decimal_length-in-Rest.result) c.in-Rest.is
+    (ap (λ b. unless b BadOctaveOrLength) (sym c.is_length.ensures ∙ c.if-is_length.true)) (omega arith)
 
 pub returns-in-Frame : goal.returns-in-Frame
 unfolding spelled
