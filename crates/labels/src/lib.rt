@@ -4,7 +4,6 @@
 mod bare;
 mod frames;
 mod labels;
-mod limits;
 mod rests;
 mod sounding;
 mod syllables;

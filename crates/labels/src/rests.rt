@@ -5,7 +5,7 @@ ghost use Rattle.labels.specs.Spellings.{byte, rest_spelling, rest_made};
 ghost use Rattle.labels.specs.Kinds.{rest_spells};
 
 use crate::labels::Label;
-use crate::limits::is_length;
+use names::is_length;
 
 #[derive(Clone, Copy)]
 pub struct RestLabel {

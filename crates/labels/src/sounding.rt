@@ -5,8 +5,7 @@ ghost use Rattle.labels.specs.Spellings.{byte, half_tones, sounding, sounding_sp
 ghost use Rattle.labels.specs.Kinds.{sounding_spells};
 
 use crate::labels::Label;
-use crate::limits::is_sung;
-use names::{Pitch, Step};
+use names::{Pitch, Step, is_sung};
 
 // `sounds` is the sounding number + 2, from 0 to 123.
 #[derive(Clone, Copy)]

@@ -5,8 +5,7 @@ ghost use Rattle.labels.specs.Spellings.{byte, raised, written_spelling, written
 ghost use Rattle.labels.specs.Kinds.{written_spells};
 
 use crate::labels::Label;
-use crate::limits::is_sung;
-use names::{Alteration, Pitch};
+use names::{Pitch, is_sung};
 
 #[derive(Clone, Copy)]
 pub struct WrittenNote {

@@ -51,12 +51,7 @@ pub fn zoepurd_write_name(
     }
 }
 
-fn write_numbered(
-    naming: u8,
-    step: u8,
-    alteration: i8,
-    out: &mut [u8],
-) -> Result<usize, Refusal>
+fn write_numbered(naming: u8, step: u8, alteration: i8, out: &mut [u8]) -> Result<usize, Refusal>
     ensures count { result ≡ written_in (naming_numbered naming) (pitch_of (step_numbered step) (alteration_numbered alteration)) out.old }
     ensures after { out.new ≡ buffer_in (naming_numbered naming) (pitch_of (step_numbered step) (alteration_numbered alteration)) out.old }
 {

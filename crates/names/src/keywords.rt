@@ -38,12 +38,6 @@ static KEYWORDS: [Keyword; 12] = [
     Keyword::Organ,
 ];
 
-// The words, by number.
-static WORDS: [&'static [u8]; 12] = [
-    b"bar", b"verse", b"chord", b"sung", b"score", b"soprano", b"alto1", b"alto2", b"tenor",
-    b"bass1", b"bass2", b"organ",
-];
-
 // A number that no keyword has.
 #[derive(Clone, Copy, PartialEq, Eq, Debug)]
 pub struct NoSuchKeyword {
@@ -64,8 +58,8 @@ impl TryFrom<u8> for Keyword {
     ghost try_from_gives = { λ n r. r ≡ ok_or (keyword_numbered n) (unnumbered n) };
 
     fn try_from(number: u8) -> Result<Keyword, NoSuchKeyword> {
-        let keyword = KEYWORDS.get(usize::from(number)).copied();
-        keyword.ok_or(NoSuchKeyword { number })
+        let listed = KEYWORDS.get(usize::from(number)).copied();
+        listed.ok_or(NoSuchKeyword { number })
     }
 }
 
@@ -82,7 +76,20 @@ impl Keyword {
     pub fn word(self) -> &'static [u8]
         ensures { result.now ≡ keyword_word self }
     {
-        WORDS[self as usize]
+        match self {
+            Keyword::Bar => b"bar",
+            Keyword::Verse => b"verse",
+            Keyword::Chord => b"chord",
+            Keyword::Sung => b"sung",
+            Keyword::Score => b"score",
+            Keyword::Soprano => b"soprano",
+            Keyword::Alto1 => b"alto1",
+            Keyword::Alto2 => b"alto2",
+            Keyword::Tenor => b"tenor",
+            Keyword::Bass1 => b"bass1",
+            Keyword::Bass2 => b"bass2",
+            Keyword::Organ => b"organ",
+        }
     }
 
     // The keyword whose word the bytes are.

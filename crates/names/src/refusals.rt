@@ -4,9 +4,10 @@ ghost use Rattle.names.specs.Refusals.{number, layer, layer_number, same_refusal
 ghost use Rattle.std.specs.Cmp.Rules.{comparing};
 ghost use Rattle.std.proofs.Common.{rules};
 
+use std::error::Error;
 use std::fmt;
 
-#[derive(Clone, Copy)]
+#[derive(Clone, Copy, Debug)]
 pub enum Refusal {
     TextTooLong,
     TokenTooLong,
@@ -38,7 +39,7 @@ pub enum Layer {
 }
 
 // A refusal and where it was met: the byte where its token begins, or 0 where no token is at fault.
-#[derive(Clone, Copy, PartialEq, Eq)]
+#[derive(Clone, Copy, PartialEq, Eq, Debug)]
 pub struct Fault {
     pub refusal: Refusal,
     pub byte: usize,
@@ -62,26 +63,26 @@ impl Eq for Refusal {
     ghost laws = { Prim.search (comparing, rules) };
 }
 
-// The number, the layer and the reason in words of each refusal, in the order of the list.
-static LISTED: [(u8, Layer, &'static str); 18] = [
-    (10, Layer::Text, "the text is longer than 65536 bytes"),
-    (11, Layer::Text, "the token is longer than 64 bytes"),
-    (12, Layer::Text, "this is no frame such as bar:2 and no syllable such as \"la\""),
-    (13, Layer::Text, "a note stands before the first word german or english"),
-    (21, Layer::Name, "there is no such naming, step or alteration"),
-    (22, Layer::Name, "the note's name is not in the list of its naming"),
-    (23, Layer::Text, "the octave is not one digit or the length is not /1 to /64"),
-    (31, Layer::Book, "the word asks for more passages than are open"),
-    (32, Layer::Book, "the book holds 4096 words already"),
-    (33, Layer::Book, "the register has too few free places for the word"),
-    (41, Layer::Book, "no word stands at that position"),
-    (42, Layer::Book, "there is no repeat of that number"),
-    (43, Layer::Book, "the table is too short for the ends of the repeat"),
-    (51, Layer::Sheet, "the book does not hold exactly one score"),
-    (52, Layer::Sheet, "the score has no such voice"),
-    (53, Layer::Sheet, "a word to be printed is none that can be typed"),
-    (54, Layer::Name, "the buffer is too short for the name"),
-    (54, Layer::Sheet, "the buffer is too short"),
+// The number and the layer of each refusal, in the order of the list.
+static LISTED: [(u8, Layer); 18] = [
+    (10, Layer::Text),
+    (11, Layer::Text),
+    (12, Layer::Text),
+    (13, Layer::Text),
+    (21, Layer::Name),
+    (22, Layer::Name),
+    (23, Layer::Text),
+    (31, Layer::Book),
+    (32, Layer::Book),
+    (33, Layer::Book),
+    (41, Layer::Book),
+    (42, Layer::Book),
+    (43, Layer::Book),
+    (51, Layer::Sheet),
+    (52, Layer::Sheet),
+    (53, Layer::Sheet),
+    (54, Layer::Name),
+    (54, Layer::Sheet),
 ];
 
 impl Refusal {
@@ -123,7 +124,27 @@ impl Fault {
 // The reason in words, for people.
 impl fmt::Display for Refusal {
     fn fmt<W: fmt::Write>(&self, f: &mut fmt::Formatter<W>) -> fmt::Result {
-        f.write_str(LISTED[*self as usize].2)
+        f.write_str(match self {
+            Refusal::TextTooLong => "the text is longer than 65536 bytes",
+            Refusal::TokenTooLong => "the token is longer than 64 bytes",
+            Refusal::NotOfForm => "this is no frame such as bar:2 and no syllable such as \"la\"",
+            Refusal::NoNaming => "a note stands before the first word german or english",
+            Refusal::OutOfRange => "there is no such naming, step or alteration",
+            Refusal::UnknownName => "the note's name is not in the list of its naming",
+            Refusal::BadOctaveOrLength =>
+                "the octave is not one digit or the length is not /1 to /64",
+            Refusal::RankAboveTops => "the word asks for more passages than are open",
+            Refusal::BookFull => "the book holds 4096 words already",
+            Refusal::RegisterFull => "the register has too few free places for the word",
+            Refusal::NoSuchPosition => "no word stands at that position",
+            Refusal::NoSuchRepeat => "there is no repeat of that number",
+            Refusal::TableTooShort => "the table is too short for the ends of the repeat",
+            Refusal::NotAScore => "the book does not hold exactly one score",
+            Refusal::NoSuchVoice => "the score has no such voice",
+            Refusal::NeverTyped => "a word to be printed is none that can be typed",
+            Refusal::NameBufferTooShort => "the buffer is too short for the name",
+            Refusal::BufferTooShort => "the buffer is too short",
+        })
     }
 }
 
@@ -136,3 +157,7 @@ impl fmt::Display for Fault {
         write!(f, "refused {number} byte {byte}: {refusal}")
     }
 }
+
+impl Error for Refusal {}
+
+impl Error for Fault {}

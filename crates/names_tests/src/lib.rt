@@ -3,37 +3,14 @@
 
 use names::{Fault, Reader};
 
-// How reading a text ends: the refusal's number, or 0, and its byte, or the number of tokens.
-#[derive(Clone, Copy, PartialEq, Eq, Debug)]
-pub struct Outcome {
-    pub number: u8,
-    pub at: usize,
-}
-
-// Reads the whole text, or up to its first fault.
-pub fn read_all(text: &[u8]) -> Outcome {
-    let mut reader = match Reader::over(text) {
-        Ok(reader) => reader,
-        Err(fault) => return stopped(fault),
-    };
+// How many tokens the text has, or its first fault.
+pub fn read_all(text: &[u8]) -> Result<usize, Fault> {
+    let mut reader = Reader::over(text)?;
     let mut tokens: usize = 0;
-    loop {
-        match reader.next_token() {
-            Ok(Some(_)) => tokens = tokens.saturating_add(1),
-            Ok(None) => return Outcome {
-                number: 0,
-                at: tokens,
-            },
-            Err(fault) => return stopped(fault),
-        }
+    while reader.next_token()?.is_some() {
+        tokens = tokens.saturating_add(1);
     }
-}
-
-fn stopped(fault: Fault) -> Outcome {
-    Outcome {
-        number: fault.number(),
-        at: fault.byte,
-    }
+    Ok(tokens)
 }
 
 #[cfg(test)]
@@ -45,195 +22,54 @@ mod tests {
     };
     use std::test::Fail;
 
-    struct Case {
-        text: &'static [u8],
-        number: u8,
-        at: usize,
-    }
+    // A text, and the number of its tokens, or the number and the byte of its fault.
+    type Case = (&'static [u8], Result<usize, (u8, usize)>);
 
     const CASES: [Case; 34] = [
-        Case {
-            text: b"",
-            number: 0,
-            at: 0,
-        },
-        Case {
-            text: b" \n ",
-            number: 0,
-            at: 0,
-        },
-        Case {
-            text: b"H4/4",
-            number: 13,
-            at: 0,
-        },
-        Case {
-            text: b"german Hes4/4",
-            number: 22,
-            at: 7,
-        },
-        Case {
-            text: b"english H4/4",
-            number: 22,
-            at: 8,
-        },
-        Case {
-            text: b"german H4/4 B4/4",
-            number: 0,
-            at: 3,
-        },
-        Case {
-            text: b"german Bis4/4",
-            number: 22,
-            at: 7,
-        },
-        Case {
-            text: b"german Asas4/4",
-            number: 22,
-            at: 7,
-        },
-        Case {
-            text: b"english C4",
-            number: 23,
-            at: 8,
-        },
-        Case {
-            text: b"english C",
-            number: 23,
-            at: 8,
-        },
-        Case {
-            text: b"english Cx",
-            number: 22,
-            at: 8,
-        },
-        Case {
-            text: b"english C4/4x",
-            number: 23,
-            at: 8,
-        },
-        Case {
-            text: b"english C44/4",
-            number: 23,
-            at: 8,
-        },
-        Case {
-            text: b"english C9/64",
-            number: 0,
-            at: 2,
-        },
-        Case {
-            text: b"english C9/65",
-            number: 23,
-            at: 8,
-        },
-        Case {
-            text: b"english\nC4/4\n",
-            number: 0,
-            at: 2,
-        },
-        Case {
-            text: b"r/65",
-            number: 23,
-            at: 0,
-        },
-        Case {
-            text: b"r/64",
-            number: 0,
-            at: 1,
-        },
-        Case {
-            text: b"r/0",
-            number: 23,
-            at: 0,
-        },
-        Case {
-            text: b"r/04",
-            number: 23,
-            at: 0,
-        },
-        Case {
-            text: b"r/",
-            number: 23,
-            at: 0,
-        },
-        Case {
-            text: b"bar:256",
-            number: 12,
-            at: 0,
-        },
-        Case {
-            text: b"bar:255",
-            number: 0,
-            at: 1,
-        },
-        Case {
-            text: b"bar:0 bar:0",
-            number: 0,
-            at: 2,
-        },
-        Case {
-            text: b"bar:0 bar:01",
-            number: 12,
-            at: 6,
-        },
-        Case {
-            text: b"bar",
-            number: 12,
-            at: 0,
-        },
-        Case {
-            text: b"bar:",
-            number: 12,
-            at: 0,
-        },
-        Case {
-            text: b"r",
-            number: 12,
-            at: 0,
-        },
-        Case {
-            text: b"\"\"",
-            number: 12,
-            at: 0,
-        },
-        Case {
-            text: b"\"la\"",
-            number: 0,
-            at: 1,
-        },
-        Case {
-            text: b"\"l\"a\"",
-            number: 12,
-            at: 0,
-        },
-        Case {
-            text: b"\"123456789012345678901234567890\"",
-            number: 0,
-            at: 1,
-        },
-        Case {
-            text: b"\"1234567890123456789012345678901\"",
-            number: 12,
-            at: 0,
-        },
-        Case {
-            text: b"germanx",
-            number: 12,
-            at: 0,
-        },
+        (b"", Ok(0)),
+        (b" \n ", Ok(0)),
+        (b"H4/4", Err((13, 0))),
+        (b"german Hes4/4", Err((22, 7))),
+        (b"english H4/4", Err((22, 8))),
+        (b"german H4/4 B4/4", Ok(3)),
+        (b"german Bis4/4", Err((22, 7))),
+        (b"german Asas4/4", Err((22, 7))),
+        (b"english C4", Err((23, 8))),
+        (b"english C", Err((23, 8))),
+        (b"english Cx", Err((22, 8))),
+        (b"english C4/4x", Err((23, 8))),
+        (b"english C44/4", Err((23, 8))),
+        (b"english C9/64", Ok(2)),
+        (b"english C9/65", Err((23, 8))),
+        (b"english\nC4/4\n", Ok(2)),
+        (b"r/65", Err((23, 0))),
+        (b"r/64", Ok(1)),
+        (b"r/0", Err((23, 0))),
+        (b"r/04", Err((23, 0))),
+        (b"r/", Err((23, 0))),
+        (b"bar:256", Err((12, 0))),
+        (b"bar:255", Ok(1)),
+        (b"bar:0 bar:0", Ok(2)),
+        (b"bar:0 bar:01", Err((12, 6))),
+        (b"bar", Err((12, 0))),
+        (b"bar:", Err((12, 0))),
+        (b"r", Err((12, 0))),
+        (b"\"\"", Err((12, 0))),
+        (b"\"la\"", Ok(1)),
+        (b"\"l\"a\"", Err((12, 0))),
+        (b"\"123456789012345678901234567890\"", Ok(1)),
+        (b"\"1234567890123456789012345678901\"", Err((12, 0))),
+        (b"germanx", Err((12, 0))),
     ];
+
+    fn ended(text: &[u8]) -> Result<usize, (u8, usize)> {
+        read_all(text).map_err(|fault| (fault.number(), fault.byte))
+    }
 
     #[test]
     fn texts_end_as_they_should(rt: HostRuntime) {
-        for case in CASES.iter() {
-            assert_eq!(rt;
-                read_all(case.text),
-                Outcome {
-                    number: case.number,
-                    at: case.at,
-                }
-            );
+        for (text, wanted) in CASES {
+            assert_eq!(rt; ended(text), wanted);
         }
     }
 
@@ -241,13 +77,13 @@ mod tests {
     fn lengths_at_their_limits(rt: HostRuntime) -> Result<(), Fail> {
         let heap = rt.alloc();
         let token = vec![in heap; b'x'; 64]?;
-        assert_eq!(rt; read_all(&token).number, 12);
+        assert_eq!(rt; ended(&token), Err((12, 0)));
         let token = vec![in heap; b'x'; 65]?;
-        assert_eq!(rt; read_all(&token).number, 11);
+        assert_eq!(rt; ended(&token), Err((11, 0)));
         let text = vec![in heap; b' '; 65_536]?;
-        assert_eq!(rt; read_all(&text).number, 0);
+        assert_eq!(rt; ended(&text), Ok(0));
         let text = vec![in heap; b' '; 65_537]?;
-        assert_eq!(rt; read_all(&text).number, 10);
+        assert_eq!(rt; ended(&text), Err((10, 0)));
         Ok(())
     }
 

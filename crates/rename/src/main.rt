@@ -4,16 +4,15 @@
 mod options;
 
 use crate::options::{HELP, Options, parse};
-use anyhow::anyhow;
-use names::{Fault, Naming};
-use renaming::{Renamed, Unrenamed, rename};
+use names::Naming;
+use renaming::{Renamed, rename};
 use std::alloc::Global;
 use std::io::{Read, Write};
 use std::process::ExitCode;
 use std::{env, fs, io};
 
 // A byte more than a text may have, so that a longer one is seen to be too long.
-const MOST: usize = 65_537;
+const MOST: u64 = 65_537;
 
 fn main(rt: HostRuntime) -> anyhow::Result<ExitCode> {
     match run(&rt) {
@@ -28,57 +27,28 @@ fn main(rt: HostRuntime) -> anyhow::Result<ExitCode> {
 fn run(rt: &HostRuntime) -> anyhow::Result<()> {
     let mut words = env::args(rt)?;
     let _program = words.next();
-    let options = match parse(words) {
-        Ok(options) => options,
-        Err(slip) => return Err(anyhow!(slip.words())),
-    };
+    let options = parse(words)?;
     if options.help {
         rt.println(HELP)?;
         return Ok(());
     }
     let text = read_text(rt, &options)?;
-    match rename(rt.alloc(), &text, options.to) {
-        Ok(renamed) => tell(rt, &options, text.len(), &renamed),
-        Err(Unrenamed::Fault(fault)) => Err(anyhow!(refusal(rt.alloc(), fault)?)),
-        Err(Unrenamed::Memory) => Err(anyhow!("there is not enough memory")),
-    }
+    let renamed = rename(rt.alloc(), &text, options.to)?;
+    tell(rt, &options, text.len(), &renamed)
 }
 
 fn read_text(rt: &HostRuntime, options: &Options) -> io::Result<Vec<u8>> {
     match &options.file {
-        Some(name) => {
-            let mut file = fs::open(rt, name.as_str())?;
-            read_most(rt.alloc(), &mut file)
-        }
-        None => {
-            let mut input = rt.stdin();
-            read_most(rt.alloc(), &mut input)
-        }
+        Some(name) => { read_most(rt.alloc(), fs::open(rt, name.as_str())?) }
+        None => { read_most(rt.alloc(), rt.stdin()) }
     }
 }
 
-// The bytes up to the end, or somewhat more than a text may have.
-fn read_most<R: Read>(heap: Global, from: &mut R) -> io::Result<Vec<u8>> {
+// The bytes up to the end, or one more than a text may have.
+fn read_most<R: Read + Drop>(heap: Global, from: R) -> io::Result<Vec<u8>> {
     let mut text = Vec::new(heap);
-    let mut chunk = [0u8; 4096];
-    for _ in 0..MOST {
-        if text.len() >= MOST {
-            break;
-        }
-        let count = from.read(&mut chunk)?;
-        if count == 0 {
-            break;
-        }
-        text.extend_from_slice(&chunk[0..count])?;
-    }
+    from.take(MOST).read_to_end(&mut text)?;
     Ok(text)
-}
-
-fn refusal(heap: Global, fault: Fault) -> io::Result<String> {
-    let number = fault.number();
-    let byte = fault.byte;
-    let reason = fault.refusal;
-    Ok(format!(in heap; "refused {number} byte {byte}: {reason}")?)
 }
 
 fn tell(

@@ -1,6 +1,8 @@
 // What the command line asks for.
 use names::Naming;
 use std::env::Args;
+use std::error::Error;
+use std::fmt;
 
 pub const HELP: &str = "Usage: rename [--to german|english] [--plain] [FILE]
 Rewrites a typed text in the note names of one naming.
@@ -22,8 +24,9 @@ pub struct Options {
     pub file: Option<String>,
 }
 
-impl Options {
-    pub fn usual() -> Options {
+// What is done where nothing is said.
+impl Default for Options {
+    fn default() -> Options {
         Options {
             to: Naming::English,
             plain: false,
@@ -34,38 +37,31 @@ impl Options {
 }
 
 // Why a command line is not understood.
-#[derive(Clone, Copy)]
+#[derive(Clone, Copy, Debug)]
 pub enum Slip {
     NoSuchOption,
     NoNaming,
     TwoFiles,
 }
 
-impl Slip {
-    pub fn words(self) -> &'static str {
-        match self {
+impl fmt::Display for Slip {
+    fn fmt<W: fmt::Write>(&self, f: &mut fmt::Formatter<W>) -> fmt::Result {
+        f.write_str(match self {
             Slip::NoSuchOption => "there is no such option; --help says which there are",
             Slip::NoNaming => "--to wants german or english behind it",
             Slip::TwoFiles => "one file at a time",
-        }
+        })
     }
 }
 
+impl Error for Slip {}
+
 // The options of the words behind the program's name.
-pub fn parse(words: Args) -> Result<Options, Slip> {
-    let mut options = Options::usual();
-    let mut naming_wanted = false;
-    for word in words {
-        if naming_wanted {
-            let Some(to) = Naming::named(word.as_bytes()) else {
-                return Err(Slip::NoNaming);
-            };
-            options.to = to;
-            naming_wanted = false;
-            continue;
-        }
+pub fn parse(mut words: Args) -> Result<Options, Slip> {
+    let mut options = Options::default();
+    while let Some(word) = words.next() {
         match word.as_str() {
-            "--to" => naming_wanted = true,
+            "--to" => options.to = naming(words.next())?,
             "--plain" => options.plain = true,
             "--help" => options.help = true,
             other if other.starts_with("--") => return Err(Slip::NoSuchOption),
@@ -73,9 +69,11 @@ pub fn parse(words: Args) -> Result<Options, Slip> {
             _ => options.file = Some(word),
         }
     }
-    if naming_wanted {
-        Err(Slip::NoNaming)
-    } else {
-        Ok(options)
-    }
+    Ok(options)
+}
+
+// The naming that the word behind `--to` is.
+fn naming(word: Option<String>) -> Result<Naming, Slip> {
+    let word = word.ok_or(Slip::NoNaming)?;
+    Naming::named(word.as_bytes()).ok_or(Slip::NoNaming)
 }

@@ -10,9 +10,11 @@ ghost use Rattle.renaming.specs.declared.Unrenamed.TheVariants.{Fault as Faulty,
 
 use names::{Fault, Naming, Placed, Reader, Refusal, Token, write_token};
 use std::alloc::{AllocError, AllocFailed, Global};
+use std::error::Error;
+use std::fmt;
 
 // How many tokens of each kind a text has, and how many notes changed their name.
-#[derive(Clone, Copy)]
+#[derive(Clone, Copy, Default)]
 pub struct Tally {
     pub tokens: u32,
     pub notes: u32,
@@ -28,7 +30,7 @@ pub struct Renamed {
     pub tally: Tally,
 }
 
-#[derive(Clone, Copy)]
+#[derive(Clone, Copy, Debug)]
 pub enum Unrenamed {
     Fault(Fault),
     Memory,
@@ -57,6 +59,17 @@ impl<T: Drop> From<AllocFailed<T>> for Unrenamed {
         Unrenamed::Memory
     }
 }
+
+impl fmt::Display for Unrenamed {
+    fn fmt<W: fmt::Write>(&self, f: &mut fmt::Formatter<W>) -> fmt::Result {
+        match self {
+            Unrenamed::Fault(fault) => fault.fmt(f),
+            Unrenamed::Memory => f.write_str("there is not enough memory"),
+        }
+    }
+}
+
+impl Error for Unrenamed {}
 
 impl Tally {
     // One token more.
@@ -103,14 +116,7 @@ fn rewrite(heap: Global, text: &[u8], to: Naming) -> Result<Renamed, Unrenamed>
 {
     let mut reader = Reader::over(text)?;
     let mut line = Vec::from_slice(heap, to.word())?;
-    let mut tally = Tally {
-        tokens: 0,
-        notes: 0,
-        syllables: 0,
-        rests: 0,
-        frames: 0,
-        changed: 0,
-    };
+    let mut tally = Tally::default();
     while let Some(placed) = reader.next_token()? {
         let changed = append(&mut line, to, &placed)?;
         tally.add(&placed.token, changed);
@@ -123,16 +129,12 @@ fn rewrite(heap: Global, text: &[u8], to: Naming) -> Result<Renamed, Unrenamed>
 pub fn rename(heap: Global, text: &[u8], to: Naming) -> Result<Renamed, Unrenamed>
     ensures { Renames text.now to result }
 {
-    match rewrite(heap, text, to) {
-        Ok(renamed) => {
-            if renamed.text.len() > 65536 {
-                return Err(Unrenamed::Fault(Fault {
-                    refusal: Refusal::TextTooLong,
-                    byte: 0,
-                }));
-            }
-            Ok(renamed)
-        }
-        Err(unrenamed) => Err(unrenamed),
+    let renamed = rewrite(heap, text, to)?;
+    if renamed.text.len() > 65536 {
+        return Err(Unrenamed::Fault(Fault {
+            refusal: Refusal::TextTooLong,
+            byte: 0,
+        }));
     }
+    Ok(renamed)
 }

@@ -1,13 +1,28 @@
-use Rattle.std.proofs.Common.{drop, Ok, vec_items, sym, ap, ◌∙◌, rules}
+use Rattle.std.proofs.Common.{◌≡◌, ℕ, drop, Ok, vec_items, sym, ap, subst, ◌∙◌, rules}
 use Rattle.names.specs.Reader.{unread, told_of_placed, told_next}
 use Rattle.names.specs.Texts.{pieces}
 use Rattle.names.proofs.Lines.{told_formed}
+use Rattle.renaming.specs.declared.Tally.{Tally}
+use Rattle.renaming.specs.Renaming.{none, Sofar}
 use Rattle.renaming.proofs.Renewing.{first_some, first_none, sofar_start, sofar_more, too_long, renews}
 use Rattle.renaming.proofs.rewrite.Goals as goal
 
+tally : ℕ → ℕ → ℕ → ℕ → ℕ → ℕ → Tally
+tally a b c d e f = record { tokens = a; notes = b; syllables = c; rests = d; frames = e; changed = f }
+
+zeros : (t : Tally) → t.tokens ≡ 0 → t.notes ≡ 0 → t.syllables ≡ 0 → t.rests ≡ 0 → t.frames ≡ 0 → t.changed ≡ 0 → tally 0 0 0 0 0 0 ≡ tally t.tokens t.notes t.syllables t.rests t.frames t.changed
+zeros t a b c d e f = cc
+
+begun : (t : Tally) → t.tokens ≡ 0 → t.notes ≡ 0 → t.syllables ≡ 0 → t.rests ≡ 0 → t.frames ≡ 0 → t.changed ≡ 0 → none ≡ t
+unfolding tally
+begun t a b c d e f = zeros t a b c d e f
+
 pub loop-line-init : goal.loop-line-init
 loop-line-init c =
-    sofar_start c.args.text.now c.args.to (vec_items c.in_ok-line.line) (unread c.in_ok-reader.reader) c.in_ok-reader.ensures.value (c.in_ok-line.ensures.items ∙ c.word.ensures)
+    let start = sofar_start c.args.text.now c.args.to (vec_items c.in_ok-line.line) (unread c.in_ok-reader.reader) c.in_ok-reader.ensures.value (c.in_ok-line.ensures.items ∙ c.word.ensures) in
+    let d = c.default-tally.ensures in
+    let e = begun c.default-tally.result d.0 d.1.0 d.1.1.0 d.1.1.1.0 d.1.1.1.1.0 d.1.1.1.1.1 in
+    subst (λ t. Sofar c.args.text.now c.args.to (vec_items c.in_ok-line.line) t (unread c.in_ok-reader.reader)) e start
 
 pub append-requires : goal.append-requires
 append-requires c =
