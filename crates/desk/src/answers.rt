@@ -1,7 +1,7 @@
 // Answers in words.
 use crate::verbs::Verb;
 use book::{Answer, Listed};
-use names::{Fault, Refusal};
+use names::Refusal;
 use std::fmt;
 use std::fmt::Display;
 
@@ -17,7 +17,7 @@ impl<'a> fmt::Display for Reply<'a> {
         match self.answer {
             Answer::Taken(Ok((group, start))) => write!(f, "group {group}, starts at {start}"),
             Answer::Took(Ok(words)) => took(f, *words),
-            Answer::Took(Err(fault)) => stopped(f, *fault),
+            Answer::Took(Err(fault)) => fault.fmt(f),
             Answer::Done => f.write_str(done(self.verb)),
             Answer::Counted(count) => how_many(f, self.verb, *count),
             Answer::Told(Ok(number)) => told(f, self.verb, *number),
@@ -85,13 +85,6 @@ fn list<W: fmt::Write>(f: &mut fmt::Formatter<W>, listed: Listed, table: &[u32])
 fn refused<W: fmt::Write>(f: &mut fmt::Formatter<W>, refusal: Refusal) -> fmt::Result {
     let number = refusal.number();
     write!(f, "refused {number}: {refusal}")
-}
-
-fn stopped<W: fmt::Write>(f: &mut fmt::Formatter<W>, fault: Fault) -> fmt::Result {
-    let number = fault.number();
-    let byte = fault.byte;
-    let refusal = fault.refusal;
-    write!(f, "refused {number} byte {byte}: {refusal}")
 }
 
 // Why the book does not allow a call of the verb as it stands, and what to do.

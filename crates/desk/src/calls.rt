@@ -1,5 +1,5 @@
 // Calls as they are typed: a verb, and what stands behind it.
-use crate::verbs::{Verb, same};
+use crate::verbs::Verb;
 use book::{Call, Either, MOST_WORDS, Node, Reading};
 use labels::{Bare, RestLabel, SyllableLabel};
 use names::{Token, read_token};
@@ -41,13 +41,9 @@ impl fmt::Display for Stray {
 // The call that a line types, with its verb.
 pub fn read_call<'a>(heap: Global, line: &'a [u8]) -> Result<(Verb, Call<'a, Kind<'a>>), Stray> {
     let (word, rest) = cut(line);
-    let Some(verb) = Verb::named(word) else {
-        return Err(Stray::NoVerb);
-    };
-    match call_of(heap, verb, rest.trim_ascii_start())? {
-        Some(call) => Ok((verb, call)),
-        None => Err(Stray::NotOfForm(verb)),
-    }
+    let verb = Verb::named(word).ok_or(Stray::NoVerb)?;
+    let call = call_of(heap, verb, rest.trim_ascii_start())?;
+    Ok((verb, call.ok_or(Stray::NotOfForm(verb))?))
 }
 
 // The call of a verb and what is typed behind it, or none where the verb wants something else there.
@@ -58,27 +54,12 @@ fn call_of<'a>(
 ) -> Result<Option<Call<'a, Kind<'a>>>, AllocError> {
     match verb {
         Verb::List => listing(heap, rest),
-        Verb::Close | Verb::Reopen | Verb::Words | Verb::Tops | Verb::Repeats => {
-            Ok(if rest.is_empty() { alone(verb) } else { None })
-        }
-        _ => Ok(with_rest(verb, rest)),
+        _ => Ok(tableless(verb, rest)),
     }
 }
 
-// The call of a verb with nothing behind it.
-fn alone<'a>(verb: Verb) -> Option<Call<'a, Kind<'a>>> {
-    match verb {
-        Verb::Close => Some(Call::Close),
-        Verb::Reopen => Some(Call::Reopen),
-        Verb::Words => Some(Call::Words),
-        Verb::Tops => Some(Call::Tops),
-        Verb::Repeats => Some(Call::Repeats),
-        _ => None,
-    }
-}
-
-// The call of a verb with a text, a node or a position behind it.
-fn with_rest<'a>(verb: Verb, rest: &'a [u8]) -> Option<Call<'a, Kind<'a>>> {
+// The same for the verbs whose calls bring no table with them.
+fn tableless<'a>(verb: Verb, rest: &'a [u8]) -> Option<Call<'a, Kind<'a>>> {
     match verb {
         Verb::Read | Verb::Written => Some(Call::Read(Reading::Written, rest)),
         Verb::Sounding => Some(Call::Read(Reading::Sounding, rest)),
@@ -86,6 +67,11 @@ fn with_rest<'a>(verb: Verb, rest: &'a [u8]) -> Option<Call<'a, Kind<'a>>> {
         Verb::Take => Some(Call::Take(node(rest)?)),
         Verb::Group => Some(Call::Group(read_number(rest)?)),
         Verb::Start => Some(Call::Start(read_number(rest)?)),
+        Verb::Close if rest.is_empty() => Some(Call::Close),
+        Verb::Reopen if rest.is_empty() => Some(Call::Reopen),
+        Verb::Words if rest.is_empty() => Some(Call::Words),
+        Verb::Tops if rest.is_empty() => Some(Call::Tops),
+        Verb::Repeats if rest.is_empty() => Some(Call::Repeats),
         _ => None,
     }
 }
@@ -93,16 +79,12 @@ fn with_rest<'a>(verb: Verb, rest: &'a [u8]) -> Option<Call<'a, Kind<'a>>> {
 // The node of a kind and what makes it one: a rank, a length, or a syllable in quotes.
 fn node<'a>(text: &'a [u8]) -> Option<Kind<'a>> {
     let (kind, rest) = cut(text);
-    if same(kind, b"bare") {
-        return Some(Either::First(bare(rest)?));
+    match kind {
+        b"bare" => Some(Either::First(bare(rest)?)),
+        b"rest" => Some(Either::Second(Either::First(silence(rest)?))),
+        b"syllable" => Some(Either::Second(Either::Second(syllable(rest)?))),
+        _ => None,
     }
-    if same(kind, b"rest") {
-        return Some(Either::Second(Either::First(silence(rest)?)));
-    }
-    if same(kind, b"syllable") {
-        return Some(Either::Second(Either::Second(syllable(rest)?)));
-    }
-    None
 }
 
 fn bare(typed: &[u8]) -> Option<Node<Bare>> {
@@ -144,9 +126,5 @@ fn listing<'a>(heap: Global, rest: &'a [u8]) -> Result<Option<Call<'a, Kind<'a>>
 // No repeat has more ends than a book has words.
 fn places_of(typed: &[u8]) -> Option<usize> {
     let places = read_number(typed)? as usize;
-    if places > MOST_WORDS {
-        None
-    } else {
-        Some(places)
-    }
+    (places <= MOST_WORDS).then_some(places)
 }

@@ -49,10 +49,7 @@ fn main(rt: HostRuntime) -> anyhow::Result<ExitCode> {
 fn run(rt: &HostRuntime) -> anyhow::Result<()> {
     let mut words = env::args(rt)?;
     let _program = words.next();
-    let options = match parse(words) {
-        Ok(options) => options,
-        Err(slip) => return Err(anyhow!(slip.words())),
-    };
+    let options = parse(words)?;
     if options.help {
         rt.println(HELP)?;
         return Ok(());
@@ -78,11 +75,9 @@ fn hold(rt: &HostRuntime, options: Options) -> anyhow::Result<()> {
 }
 
 fn read_lines(rt: &HostRuntime) -> io::Result<Vec<String>> {
-    let mut lines = Vec::new(rt.alloc());
-    for line in BufReader::new(rt.alloc(), rt.stdin())?.lines(rt.alloc()) {
-        lines.push(line?)?;
-    }
-    Ok(lines)
+    BufReader::new(rt.alloc(), rt.stdin())?
+        .lines(rt.alloc())
+        .try_collect(rt.alloc())
 }
 
 // The calls of the lines. A line that is none is named at once, and the others count all the same.

@@ -1,6 +1,8 @@
 // What the command line asks for.
 use registers::MOST_PAIRS;
 use std::env::Args;
+use std::error::Error;
+use std::fmt;
 use typed::read_number;
 
 pub const HELP: &str = "Usage: desk [--plain] [--capacity N] < CALLS
@@ -33,52 +35,53 @@ pub struct Options {
 }
 
 // Why a command line is not understood.
-#[derive(Clone, Copy)]
+#[derive(Clone, Copy, Debug)]
 pub enum Slip {
     NoSuchOption,
     NoCapacity,
 }
 
-impl Slip {
-    pub fn words(self) -> &'static str {
-        match self {
+impl fmt::Display for Slip {
+    fn fmt<W: fmt::Write>(&self, f: &mut fmt::Formatter<W>) -> fmt::Result {
+        f.write_str(match self {
             Slip::NoSuchOption => "there is no such option; --help says which there are",
             Slip::NoCapacity => "--capacity wants a number up to 32768 behind it",
+        })
+    }
+}
+
+impl Error for Slip {}
+
+// What is done where nothing is said.
+impl Default for Options {
+    fn default() -> Options {
+        Options {
+            plain: false,
+            help: false,
+            capacity: MOST_PAIRS,
         }
     }
 }
 
 // The options of the words behind the program's name.
-pub fn parse(words: Args) -> Result<Options, Slip> {
-    let mut options = Options {
-        plain: false,
-        help: false,
-        capacity: MOST_PAIRS,
-    };
-    let mut capacity_wanted = false;
-    for word in words {
-        if capacity_wanted {
-            options.capacity = capacity_of(word.as_bytes())?;
-            capacity_wanted = false;
-            continue;
-        }
+pub fn parse(mut words: Args) -> Result<Options, Slip> {
+    let mut options = Options::default();
+    while let Some(word) = words.next() {
         match word.as_str() {
             "--plain" => options.plain = true,
             "--help" => options.help = true,
-            "--capacity" => capacity_wanted = true,
+            "--capacity" => options.capacity = capacity(words.next())?,
             _ => return Err(Slip::NoSuchOption),
         }
     }
-    if capacity_wanted {
-        Err(Slip::NoCapacity)
-    } else {
-        Ok(options)
-    }
+    Ok(options)
 }
 
-fn capacity_of(typed: &[u8]) -> Result<usize, Slip> {
-    match read_number(typed) {
-        Some(number) if number as usize <= MOST_PAIRS => Ok(number as usize),
-        _ => Err(Slip::NoCapacity),
-    }
+// The capacity that the word behind `--capacity` says.
+fn capacity(word: Option<String>) -> Result<usize, Slip> {
+    let word = word.ok_or(Slip::NoCapacity)?;
+    let number = read_number(word.as_bytes()).ok_or(Slip::NoCapacity)? as usize;
+    (number <= MOST_PAIRS)
+        .then_some(number)
+        .ok_or(Slip::NoCapacity)
 }

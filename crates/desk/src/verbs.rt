@@ -1,7 +1,6 @@
 // The first words of calls.
 ghost use Rattle.std.specs.Prelude.{◌≡◌};
-ghost use Rattle.std.specs.Str.{bytes_eq};
-ghost use Rattle.desk.specs.Verbs.{change_named, question_named, verb_named};
+ghost use Rattle.desk.specs.Verbs.{verb_word, verb_named};
 
 // What a call asks of the book.
 #[derive(Clone, Copy)]
@@ -21,75 +20,50 @@ pub enum Verb {
     List,
 }
 
-// Whether the two are the same bytes.
-pub fn same(word: &[u8], other: &[u8]) -> bool
-    ensures { result ≡ bytes_eq word.now other.now }
-{
-    word == other
-}
-
-// The verb of the calls that change the book.
-fn change_named(word: &[u8]) -> Option<Verb>
-    ensures { result ≡ change_named word.now }
-{
-    if same(word, b"read") {
-        return Some(Verb::Read);
-    }
-    if same(word, b"written") {
-        return Some(Verb::Written);
-    }
-    if same(word, b"sounding") {
-        return Some(Verb::Sounding);
-    }
-    if same(word, b"bare") {
-        return Some(Verb::Bare);
-    }
-    if same(word, b"take") {
-        return Some(Verb::Take);
-    }
-    if same(word, b"close") {
-        return Some(Verb::Close);
-    }
-    if same(word, b"reopen") {
-        return Some(Verb::Reopen);
-    }
-    None
-}
-
-// The verb of the questions and listings.
-fn question_named(word: &[u8]) -> Option<Verb>
-    ensures { result ≡ question_named word.now }
-{
-    if same(word, b"words") {
-        return Some(Verb::Words);
-    }
-    if same(word, b"tops") {
-        return Some(Verb::Tops);
-    }
-    if same(word, b"group") {
-        return Some(Verb::Group);
-    }
-    if same(word, b"start") {
-        return Some(Verb::Start);
-    }
-    if same(word, b"repeats") {
-        return Some(Verb::Repeats);
-    }
-    if same(word, b"list") {
-        return Some(Verb::List);
-    }
-    None
-}
+static VERBS: [Verb; 13] = [
+    Verb::Read,
+    Verb::Written,
+    Verb::Sounding,
+    Verb::Bare,
+    Verb::Take,
+    Verb::Close,
+    Verb::Reopen,
+    Verb::Words,
+    Verb::Tops,
+    Verb::Group,
+    Verb::Start,
+    Verb::Repeats,
+    Verb::List,
+];
 
 impl Verb {
+    // The word that begins its calls.
+    fn word(self) -> &'static [u8]
+        ensures { result.now ≡ verb_word self }
+    {
+        match self {
+            Verb::Read => b"read",
+            Verb::Written => b"written",
+            Verb::Sounding => b"sounding",
+            Verb::Bare => b"bare",
+            Verb::Take => b"take",
+            Verb::Close => b"close",
+            Verb::Reopen => b"reopen",
+            Verb::Words => b"words",
+            Verb::Tops => b"tops",
+            Verb::Group => b"group",
+            Verb::Start => b"start",
+            Verb::Repeats => b"repeats",
+            Verb::List => b"list",
+        }
+    }
+
     // The verb that a word is.
+    #[tactic(auto, unfolding(crate::specs::Verbs::verb_named))]
     pub fn named(word: &[u8]) -> Option<Verb>
         ensures { result ≡ verb_named word.now }
     {
-        match change_named(word) {
-            Some(verb) => Some(verb),
-            None => question_named(word),
-        }
+        VERBS.iter().copied().find(|verb| verb.word() == word)
     }
 
     // How a call with this verb is typed.
