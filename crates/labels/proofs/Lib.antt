@@ -1,2 +1,1 @@
 pub mod Sounds
-pub mod Bytes

@@ -1,7 +1,7 @@
 -- Each kind of label is spelled as a kind must be. Assumes nothing.
-use Rattle.std.specs.Prelude.{ℕ, ◌<◌, List, [], ◌∷◌, map, take, refl}
-use Rattle.std.proofs.Common.{arith, length-take}
-use Rattle.std.proofs.lemmas.List.{length-map}
+use Rattle.std.specs.Prelude.{◌≡◌, ℕ, suc, ◌<◌, ◌≤◌, true, List, [], ◌∷◌, length, nat_le, slice_index, refl}
+use Rattle.std.proofs.Common.{arith}
+use Rattle.std.proofs.lemmas.Bool.{and_parts, leb-true}
 use Rattle.std.specs.List.{AllByRecursion}
 use Rattle.names.specs.declared.pitches.Step.{Step}
 use Rattle.names.specs.declared.pitches.Step.TheVariants.{C, D, E, F, G, A, B}
@@ -12,7 +12,8 @@ use Rattle.names.specs.declared.keywords.Keyword.{Keyword}
 use Rattle.names.specs.declared.keywords.Keyword.TheVariants.{Bar, Verse, Chord, Sung, Score, Soprano, Alto1, Alto2, Tenor, Bass1, Bass2, Organ}
 use Rattle.names.specs.Pitches.{step_number}
 use Rattle.names.specs.Keywords.{keyword_number}
-use Rattle.labels.specs.Spellings.{Spells, byte, bytes_of, bare_spelling, raised, written_spelling, rest_spelling, syllable_spelling, frame_spelling, sounding_spelling}
+use Rattle.names.specs.Tokens.{lasting, sung}
+use Rattle.labels.specs.Spellings.{Spells, bare_spelling, raised, written_spelling, rest_spelling, syllabic, syllable_spelling, frame_spelling, sounding_spelling}
 
 pub bare_spells : Spells 0 1 bare_spelling
 bare_spells = record { begins = refl; some = omega arith; within = omega arith; most = omega arith; small = (omega arith, tt) }
@@ -47,8 +48,15 @@ keyword_small Bass1 = omega arith
 keyword_small Bass2 = omega arith
 keyword_small Organ = omega arith
 
-pub written_spells : (p : Pitch) (octave lasts : ℕ) → Spells 1 5 (written_spelling p (byte octave) (byte lasts))
-written_spells p octave lasts =
+lasting_small : (lasts : ℕ) → lasting lasts ≡ true → lasts ≤ 64
+lasting_small lasts l = leb-true lasts 64 (and_parts (nat_le 1 lasts) (nat_le lasts 64) l).1
+
+sung_small : (octave lasts : ℕ) → sung octave lasts ≡ true → (octave ≤ 9) × (lasts ≤ 64)
+sung_small octave lasts s = let p = and_parts (nat_le octave 9) (lasting lasts) s in (leb-true octave 9 p.0, lasting_small lasts p.1)
+
+pub written_spells : (p : Pitch) (octave lasts : ℕ) → sung octave lasts ≡ true → Spells 1 5 (written_spelling p octave lasts)
+written_spells p octave lasts s =
+    let l = sung_small octave lasts s in
     record {
       begins = refl;
       some = omega arith;
@@ -57,25 +65,23 @@ written_spells p octave lasts =
       small = (omega arith, (step_small p.step, (raised_small p.alteration, (omega arith, (omega arith, tt)))));
     }
 
-pub rest_spells : (lasts : ℕ) → Spells 2 2 (rest_spelling (byte lasts))
-rest_spells lasts = record { begins = refl; some = omega arith; within = omega arith; most = omega arith; small = (omega arith, (omega arith, tt)) }
+pub rest_spells : (lasts : ℕ) → lasting lasts ≡ true → Spells 2 2 (rest_spelling lasts)
+rest_spells lasts l = let h = lasting_small lasts l in record { begins = refl; some = omega arith; within = omega arith; most = omega arith; small = (omega arith, (omega arith, tt)) }
 
-bytes_small : (bs : List ℕ) → AllByRecursion (λ n. n < 65536) (map byte bs)
-bytes_small [] = tt
-bytes_small (b ∷ bs) = (omega arith, bytes_small bs)
+bytes_small : (bs : List ℕ) → ((i : ℕ) → slice_index bs i < 256) → AllByRecursion (λ n. n < 65536) bs
+bytes_small [] h = tt
+bytes_small (b ∷ bs) h = let l : b < 256 = h 0 in (omega arith, bytes_small bs (λ i. h (suc i)))
 
-pub syllable_spells : (bs : List ℕ) → Spells 3 31 (syllable_spelling (bytes_of bs))
-syllable_spells bs =
-    record {
-      begins = refl;
-      some = omega arith;
-      within = omega (arith, length-map (take 30 bs) byte, length-take 30 bs);
-      most = omega arith;
-      small = (omega arith, bytes_small (take 30 bs));
-    }
+pub syllable_spells : (bs : List ℕ) → syllabic bs ≡ true → ((i : ℕ) → slice_index bs i < 256) → Spells 3 31 (syllable_spelling bs)
+syllable_spells bs s h =
+    let p = and_parts _ _ s in
+    let l = leb-true (length bs) 30 p.1 in
+    record { begins = refl; some = omega arith; within = omega arith; most = omega arith; small = (omega arith, bytes_small bs h) }
 
 pub frame_spells : (k : Keyword) → Spells 4 2 (frame_spelling k)
 frame_spells k = record { begins = refl; some = omega arith; within = omega arith; most = omega arith; small = (omega arith, (keyword_small k, tt)) }
 
-pub sounding_spells : (sounds lasts : ℕ) → Spells 5 3 (sounding_spelling (byte sounds) (byte lasts))
-sounding_spells sounds lasts = record { begins = refl; some = omega arith; within = omega arith; most = omega arith; small = (omega arith, (omega arith, (omega arith, tt))) }
+pub sounding_spells : (sounds lasts : ℕ) → sounds ≤ 123 → lasting lasts ≡ true → Spells 5 3 (sounding_spelling sounds lasts)
+sounding_spells sounds lasts low l =
+    let h = lasting_small lasts l in
+    record { begins = refl; some = omega arith; within = omega arith; most = omega arith; small = (omega arith, (omega arith, (omega arith, tt))) }

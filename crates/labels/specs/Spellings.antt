@@ -1,5 +1,5 @@
 -- Spellings: what a label means, and how each kind of label is spelled. Assumes nothing.
-use Rattle.std.specs.Prelude.{◌≡◌, ℕ, ◌+◌, ◌*◌, ◌<◌, ◌≤◌, min, Bool, cond, ◌&&◌, List, [], ◌∷◌, map, length, take, ℤ, pos, ◌+ℤ◌, Some, None, Option, nat_le, slice_index_or}
+use Rattle.std.specs.Prelude.{◌≡◌, ℕ, ◌+◌, ◌*◌, ◌<◌, ◌≤◌, Bool, cond, ◌&&◌, List, [], ◌∷◌, length, ℤ, pos, ◌+ℤ◌, Some, None, Option, nat_le, slice_index_or}
 use Rattle.std.specs.List.{AllByRecursion}
 use Rattle.names.specs.declared.pitches.Step.{Step}
 use Rattle.names.specs.declared.pitches.Step.TheVariants.{C, D, E, F, G, A, B}
@@ -19,15 +19,6 @@ pub record Spells (kind longest : ℕ) (s : List ℕ) : Type 0 where
   pub within : length s ≤ longest
   pub most : longest ≤ 32
   pub small : AllByRecursion (λ n. n < 65536) s
-
--- What a byte holds, and a syllable's bytes. A field of a struct is any number to a definition, so a label's spelling says by these
--- what the field's type says: a number is at most 255. A syllable is at most 30 bytes.
-
-abbrev pub byte : ℕ → ℕ
-byte n = min n 255
-
-abbrev pub bytes_of : List ℕ → List ℕ
-bytes_of bs = map byte (take 30 bs)
 
 -- a bare node: nothing behind the kind number
 abbrev pub bare_spelling : List ℕ

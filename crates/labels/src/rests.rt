@@ -1,7 +1,8 @@
 // The label of a rest.
-ghost use Rattle.std.specs.Prelude.{◌≡◌};
+ghost use Rattle.std.specs.Prelude.{◌≡◌, true};
+ghost use Rattle.names.specs.Tokens.{lasting};
 ghost use Rattle.std.specs.Option.{option_map};
-ghost use Rattle.labels.specs.Spellings.{byte, rest_spelling, rest_made};
+ghost use Rattle.labels.specs.Spellings.{rest_spelling, rest_made};
 ghost use Rattle.labels.specs.Kinds.{rest_spells};
 
 use crate::labels::Label;
@@ -10,14 +11,19 @@ use names::is_length;
 #[derive(Clone, Copy)]
 pub struct RestLabel {
     length: u8,
+    ghost lasting: { lasting length ≡ true },
 }
 
 impl RestLabel {
     // The rest, if the length is from 1 to 64.
     pub fn new(length: u8) -> Option<RestLabel>
-        ensures { option_map (λ n. rest_spelling (byte n.length)) result ≡ rest_made length }
+        ensures { option_map (λ n. rest_spelling n.length) result ≡ rest_made length }
     {
-        is_length(length).then_some(RestLabel { length })
+        if is_length(length) {
+            Some(RestLabel { length })
+        } else {
+            None
+        }
     }
 }
 
@@ -30,9 +36,9 @@ impl Label for RestLabel {
 
     ghost longest = { 2 };
 
-    ghost spelling = { λ n. rest_spelling (byte n.length) };
+    ghost spelling = { λ n. rest_spelling n.length };
 
-    ghost spells = { λ n. rest_spells n.length };
+    ghost spells = { λ n. rest_spells n.length n.lasting };
 
     fn kind_number() -> u16 {
         Self::KIND

@@ -1,7 +1,8 @@
 // The label of a note as it sounds, whichever name it was written with.
-ghost use Rattle.std.specs.Prelude.{◌≡◌, ◌≤◌};
+ghost use Rattle.std.specs.Prelude.{◌≡◌, ◌≤◌, true};
+ghost use Rattle.names.specs.Tokens.{lasting};
 ghost use Rattle.std.specs.Option.{option_map};
-ghost use Rattle.labels.specs.Spellings.{byte, half_tones, sounding, sounding_spelling, sounding_made};
+ghost use Rattle.labels.specs.Spellings.{half_tones, sounding, sounding_spelling, sounding_made};
 ghost use Rattle.labels.specs.Kinds.{sounding_spells};
 
 use crate::labels::Label;
@@ -12,17 +13,20 @@ use names::{Pitch, Step, is_sung};
 pub struct SoundingNote {
     sounds: u8,
     length: u8,
+    ghost low: { sounds ≤ 123 },
+    ghost lasting: { lasting length ≡ true },
 }
 
 impl SoundingNote {
     // The note, if the octave is at most 9 and the length is from 1 to 64.
     pub fn new(pitch: Pitch, octave: u8, length: u8) -> Option<SoundingNote>
-        ensures { option_map (λ n. sounding_spelling (byte n.sounds) (byte n.length)) result ≡ sounding_made pitch octave length }
+        ensures { option_map (λ n. sounding_spelling n.sounds n.length) result ≡ sounding_made pitch octave length }
     {
-        is_sung(octave, length).then(|| SoundingNote {
-            sounds: sounding_raised(pitch, octave),
-            length,
-        })
+        if !is_sung(octave, length) {
+            return None;
+        }
+        let sounds = sounding_raised(pitch, octave);
+        Some(SoundingNote { sounds, length })
     }
 }
 
@@ -54,9 +58,9 @@ impl Label for SoundingNote {
 
     ghost longest = { 3 };
 
-    ghost spelling = { λ n. sounding_spelling (byte n.sounds) (byte n.length) };
+    ghost spelling = { λ n. sounding_spelling n.sounds n.length };
 
-    ghost spells = { λ n. sounding_spells n.sounds n.length };
+    ghost spells = { λ n. sounding_spells n.sounds n.length n.low n.lasting };
 
     fn kind_number() -> u16 {
         Self::KIND

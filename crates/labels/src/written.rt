@@ -1,7 +1,8 @@
 // The label of a note as it is written.
-ghost use Rattle.std.specs.Prelude.{◌≡◌};
+ghost use Rattle.std.specs.Prelude.{◌≡◌, true};
+ghost use Rattle.names.specs.Tokens.{sung};
 ghost use Rattle.std.specs.Option.{option_map};
-ghost use Rattle.labels.specs.Spellings.{byte, raised, written_spelling, written_made};
+ghost use Rattle.labels.specs.Spellings.{written_spelling, written_made};
 ghost use Rattle.labels.specs.Kinds.{written_spells};
 
 use crate::labels::Label;
@@ -12,14 +13,18 @@ pub struct WrittenNote {
     pitch: Pitch,
     octave: u8,
     length: u8,
+    ghost sung: { sung octave length ≡ true },
 }
 
 impl WrittenNote {
     // The note, if the octave is at most 9 and the length is from 1 to 64.
     pub fn new(pitch: Pitch, octave: u8, length: u8) -> Option<WrittenNote>
-        ensures { option_map (λ n. written_spelling n.pitch (byte n.octave) (byte n.length)) result ≡ written_made pitch octave length }
+        ensures { option_map (λ n. written_spelling n.pitch n.octave n.length) result ≡ written_made pitch octave length }
     {
-        is_sung(octave, length).then_some(WrittenNote {
+        if !is_sung(octave, length) {
+            return None;
+        }
+        Some(WrittenNote {
             pitch,
             octave,
             length,
@@ -36,9 +41,9 @@ impl Label for WrittenNote {
 
     ghost longest = { 5 };
 
-    ghost spelling = { λ n. written_spelling n.pitch (byte n.octave) (byte n.length) };
+    ghost spelling = { λ n. written_spelling n.pitch n.octave n.length };
 
-    ghost spells = { λ n. written_spells n.pitch n.octave n.length };
+    ghost spells = { λ n. written_spells n.pitch n.octave n.length n.sung };
 
     fn kind_number() -> u16 {
         Self::KIND

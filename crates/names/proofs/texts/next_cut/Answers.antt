@@ -18,11 +18,3 @@ returns c =
       pieces_skip text c.args.at from c.stretch_end-byte.ensures ∙ pieces_token text from to c.stretch_end-end.ensures (omega arith),
       token_ends text from to c.stretch_end-end.ensures (omega arith),
     )
-
-pub slice_bounds-result-end : goal.slice_bounds-result-end
-slice_bounds-result-end c =
-    let f = c.stretch_end-end.ensures.forth in
-    let n = c.if-end-byte.false in
-    let l : c.stretch_end-end.result - 1 < length c.args.text.now = (c.stretch_end-end.ensures.all (c.stretch_end-end.result - 1) (omega arith) (omega arith)).0 in
-    let h : c.stretch_end-end.result ≤ length c.args.text.now = omega arith in
-    search rules
