@@ -17,7 +17,8 @@ pub trait Label {
 
     ghost spells: { (x : Self) → Spells kind longest (spelling x) };
 
-    // The constants, for code that works with any kind.
+    // The constants, for code that works with any kind. Each kind writes them out: the trait could provide them
+    // only with ghost members under the constants' names, which the check cannot state for a kind that borrows.
     fn kind_number() -> u16
         ensures { result ≡ kind };
 

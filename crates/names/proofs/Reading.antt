@@ -1,6 +1,6 @@
 -- The steps of reading tokens.
-use Rattle.std.proofs.Common.{◌≡◌, ℕ, ◌+◌, ◌-◌, ◌<◌, ◌≤◌, Bool, true, false, cond, not, ◌&&◌, ltb, List, [], ◌∷◌, length, get_or, take, drop, Some, None, Ok, Err, Option, Result, sym, ap, ◌∙◌, arith}
-use Rattle.std.proofs.lemmas.List.{at_drop_more, drop-drop}
+use Rattle.std.proofs.Common.{◌≡◌, ℕ, ◌+◌, ◌-◌, ◌<◌, ◌≤◌, true, false, not, ◌&&◌, ltb, List, [], ◌∷◌, length, get_or, take, drop, Some, None, Ok, Err, Option, Result, sym, ap, ◌∙◌, arith}
+use Rattle.std.proofs.lemmas.List.{drop-drop}
 use Rattle.std.proofs.lemmas.Bool.{cond-true, cond-false, lt-ltb, le-ltb, and_left, and_right, and_from}
 use Rattle.std.specs.Char.{is_ascii_digit}
 use Rattle.std.proofs.lemmas.List.Sums.{prefix_len-le-length}
@@ -17,7 +17,7 @@ use Rattle.names.specs.Keywords.{keyword_named}
 use Rattle.names.specs.Names.{pitch_read}
 use Rattle.names.specs.Pitches.{naming_named}
 use Rattle.names.specs.Scanned.{start, scanned, struck}
-use Rattle.names.specs.Tokens.{Said, naming, syllable, note, each, quoted, inside, syllabled, syllable_read, run, colon, note_name, note_tail, tailed, note_read, of_pitch, of_length, length_read, rank_read, framed, frame_read, begun, read_by_kind, worded, token_read}
+use Rattle.names.specs.Tokens.{Said, naming, syllable, note, quoted, inside, syllabled, syllable_read, run, colon, note_name, note_tail, tailed, note_read, of_pitch, of_length, length_read, rank_read, framed, frame_read, begun, read_by_kind, worded, token_read}
 use Rattle.names.proofs.Scanning.{scan_parts}
 
 -- what the note reader found, as the note's definition has it

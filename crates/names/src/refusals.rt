@@ -45,7 +45,7 @@ pub struct Fault {
     pub byte: usize,
 }
 
-// Written out, so that its contract says in so many words that it tells the same refusals from different ones.
+// Written out: its contract says that it tells the same refusals from different ones, and a derive has no contract.
 impl PartialEq for Refusal {
     ghost eq = { same_refusal };
 

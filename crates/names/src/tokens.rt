@@ -11,7 +11,7 @@ use crate::pitches::{Naming, Pitch};
 use crate::refusals::Refusal;
 use crate::spellings::read_name;
 
-// What the beginning of a token makes of it.
+// What the beginning of a token makes of it: judged by itself, so that one definition says it.
 #[derive(Clone, Copy)]
 pub enum Kind {
     Syllable,

@@ -1,4 +1,4 @@
-use Rattle.std.proofs.Common.{◌-◌, ◌<◌, ◌≤◌, length, ◌∙◌, subst, arith, rules}
+use Rattle.std.proofs.Common.{◌∙◌, subst, arith}
 use Rattle.names.specs.Cutting.{Ended}
 use Rattle.names.proofs.Cuts.{pieces_skip, pieces_token, pieces_none, token_ends}
 use Rattle.names.proofs.texts.next_cut.Goals as goal

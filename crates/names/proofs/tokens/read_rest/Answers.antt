@@ -1,4 +1,4 @@
-use Rattle.std.proofs.Common.{Ok, Err, sym, ap, ◌∙◌}
+use Rattle.std.proofs.Common.{sym, ap, ◌∙◌}
 use Rattle.names.specs.Tokens.{rest, length_read, of_length, rest_read}
 use Rattle.names.proofs.Refusing.{had, lacked_and}
 use Rattle.names.proofs.tokens.read_rest.Goals as goal

@@ -1,4 +1,4 @@
-use Rattle.std.proofs.Common.{◌≡◌, ℕ, ◌+◌, true, leb, [], ◌∷◌, ◌++◌, length, Some, None, Ok, Err, codes, decimal, sym, refl, ap, ◌∙◌, arith}
+use Rattle.std.proofs.Common.{◌≡◌, ℕ, ◌+◌, true, leb, [], ◌∷◌, ◌++◌, length, None, Ok, codes, decimal, sym, refl, ap, ◌∙◌, arith}
 use Rattle.std.proofs.lemmas.List.{length_push}
 use Rattle.std.proofs.lemmas.Bool.{le-leb}
 use Rattle.names.specs.declared.pitches.Naming.{Naming}
