@@ -1,5 +1,5 @@
 -- Facts on lists of pairs, a pair's place and number in them, and the list with a pair held. Assumes nothing.
-use Rattle.std.proofs.Common.{◌≡◌, ℕ, zero, suc, ◌+◌, ◌-◌, ◌<◌, ◌≤◌, true, false, leb, ◌⊎◌, List, [], ◌∷◌, ◌++◌, length, Some, None, sym, refl, ap, ◌∙◌, inl, inr, ⊎_elim, one-add, arith}
+use Rattle.std.proofs.Common.{◌≡◌, ℕ, zero, suc, ◌+◌, ◌-◌, ◌<◌, ◌≤◌, true, false, leb, ◌⊎◌, List, [], ◌∷◌, ◌++◌, length, Some, None, Option, sym, refl, ap, ◌∙◌, inl, inr, ⊎_elim, one-add, arith}
 use Rattle.std.proofs.lemmas.List.{length_push, get_or_append_left, get_or_push}
 use Rattle.std.proofs.lemmas.Bool.{lt-ltb, le-ltb, le-leb, lt-leb, and_parts, and_from, and_left, and_right, or_left, or_right, or_from, or_parts, eqb-true, eq-eqb, cases_Bool, cases_lt, true≢false, cond-true, cond-false}
 use Rattle.registers.specs.declared.pairs.Pair.{Pair}
@@ -121,6 +121,13 @@ pub place_in_none : (qs : List Pair) (p : Pair) → holds qs p ≡ false → pla
 unfolding place_in
 place_in_none qs p h = cond-false _ _ _ h
 
+-- what a look through the list from the first on finds
+pub place_in_first : (qs : List Pair) (p : Pair) (i : ℕ) → i < length qs → same (at qs i) p ≡ true → ((k : ℕ) → k < i → same (at qs k) p ≡ false) → place_in qs p ≡ Some i
+place_in_first qs p i l h n = let f = place_first qs p i l h n in place_in_some qs p i f.0 f.1
+
+pub place_in_passed : (qs : List Pair) (p : Pair) → ((k : ℕ) → k < length qs → same (at qs k) p ≡ false) → place_in qs p ≡ None
+place_in_passed qs p n = place_in_none qs p (holds_none qs p n)
+
 pub number_some : (qs : List Pair) (p : Pair) (i : ℕ) → holds qs p ≡ true → place qs p ≡ i → number_in qs p ≡ Some (i + 1)
 number_some qs p i h e = ap from_place (place_in_some qs p i h e)
 
@@ -209,5 +216,17 @@ pub number_not_held : (qs : List Pair) (p : Pair) → None ≡ number_in qs p �
 number_not_held qs p e =
     ⊎_elim (λ h. absurd (some_not_none (place qs p + 1) (sym (number_some qs p (place qs p) h refl) ∙ sym e))) (λ h. h) (cases_Bool (holds qs p))
 
-pub numbered_held : (room : ℕ) (qs : List Pair) (p : Pair) (n : ℕ) → Some n ≡ number_in qs p → Some n ≡ number_in (holding room qs p) p
-numbered_held room qs p n e = e ∙ ap (λ rs. number_in rs p) (sym (holding_old room qs p (number_held qs p n e)))
+-- What a call that asks for a pair's number may answer and leave, by cases.
+pub record Asked (room : ℕ) (qs : List Pair) (p : Pair) (answer : Option ℕ) (rs : List Pair) : Type 0 where
+  pub number : answer ≡ number_in (holding room qs p) p
+  pub list : rs ≡ holding room qs p
+
+module _ (room : ℕ) (qs : List Pair) (p : Pair) where
+  pub asked_held : (n : ℕ) → Some n ≡ number_in qs p → Asked room qs p (Some n) qs
+  asked_held n e = let k = holding_old room qs p (number_held qs p n e) in record { number = rw k e; list = sym k }
+
+  pub asked_full : None ≡ number_in qs p → room ≤ length qs → Asked room qs p None qs
+  asked_full e l = let h = number_not_held qs p e in record { number = sym (numbered_full room qs p h l); list = sym (holding_full room qs p h l) }
+
+  pub asked_new : None ≡ number_in qs p → length qs < room → Asked room qs p (Some (length qs + 1)) (qs ++ p ∷ [])
+  asked_new e l = let h = number_not_held qs p e in record { number = sym (numbered_new room qs p h l); list = sym (holding_new room qs p h l) }

@@ -1,17 +1,27 @@
-use Rattle.std.proofs.Common.{◌≤◌, min, length, take, vec_items, vec_len, sym, refl, arith}
-use Rattle.std.proofs.lemmas.List.{length-take-le}
-use Rattle.registers.proofs.Listed.{number_held, number_not_held, numbered_held, holding_old, holding_full, numbered_full}
+use Rattle.std.proofs.Common.{ap, ◌∙◌, refl, Some, arith}
+use Rattle.registers.specs.Rowed.{pairs_of, room_of}
+use Rattle.registers.proofs.Listed.{asked_held, asked_full, asked_new, apart_push, number_not_held}
 use Rattle.registers.proofs.by_rows.RowsRegister.number.Goals as goal
 
 pub returns-in-Some : goal.returns-in-Some
 returns-in-Some c =
-    let e = c.in-Some.ensures in
-    record { answer = numbered_held _ _ _ _ e; after = sym (holding_old _ _ _ (number_held _ _ _ e)); same = refl }
-
-pub returns-then-self-min : goal.returns-then-self-min
-returns-then-self-min c =
     let s = c.args.self.now in
-    let h = number_not_held _ _ c.in_default.ensures in
-    let k = length-take-le s.count (vec_items s.table) (omega (arith, s.table.ok.0)) in
-    let full : min (vec_len s.table) 32768 ≤ length (take s.count (vec_items s.table)) = omega (arith, k) in
-    record { answer = sym (numbered_full _ _ _ h full); after = sym (holding_full _ _ _ h full); same = refl }
+    let a = asked_held (room_of s) (pairs_of s) c.args.pair _ c.in-Some.ensures in
+    record { answer = a.number; after = a.list; same = refl }
+
+pub returns-then-count-capacity : goal.returns-then-count-capacity
+returns-then-count-capacity c =
+    let s = c.args.self.now in
+    let a = asked_full (room_of s) (pairs_of s) c.args.pair c.in_default.ensures (omega arith) in
+    record { answer = a.number; after = a.list; same = refl }
+
+pub invariant_of-self : goal.invariant_of-self
+invariant_of-self c =
+    let s = c.args.self.now in
+    record { apart = rw c.push.ensures.after (apart_push (pairs_of s) c.args.pair s.apart (number_not_held _ _ c.in_default.ensures)) }
+
+pub returns : goal.returns
+returns c =
+    let s = c.args.self.now in
+    let a = asked_new (room_of s) (pairs_of s) c.args.pair c.in_default.ensures (omega arith) in
+    record { answer = ap Some c.push.ensures.number ∙ a.number; after = c.push.ensures.after ∙ a.list; same = c.push.ensures.same }
