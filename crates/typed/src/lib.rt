@@ -12,7 +12,7 @@ fn with_digit(number: u32, byte: u8) -> Option<u32>
     number.checked_mul(10)?.checked_add(digit)
 }
 
-#[tactic(auto, using(crate::proofs::Digits::value_none))]
+#[tactic(auto, using(crate::proofs::Digits::value_off))]
 pub fn read_number(text: &[u8]) -> Option<u32>
     ensures { result ≡ number_typed text.now }
 {
