@@ -39,8 +39,7 @@ impl<T: Copy> Held<T> {
     }
 
     pub(crate) fn count(&self) -> u32
-        ensures value { result ≡ length (places_of self.now) }
-        ensures few { result ≤ 32768 }
+        ensures { result ≡ length (places_of self.now) }
     {
         self.count as u32
     }
