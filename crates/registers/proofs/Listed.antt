@@ -1,5 +1,5 @@
 -- Facts on lists of pairs, a pair's place and number in them, and the list with a pair held. Assumes nothing.
-use Rattle.std.proofs.Common.{◌≡◌, ℕ, zero, suc, ◌+◌, ◌-◌, ◌<◌, ◌≤◌, true, false, leb, ◌⊎◌, List, [], ◌∷◌, ◌++◌, length, Some, None, Option, sym, refl, ap, ◌∙◌, inl, inr, ⊎_elim, one-add, arith}
+use Rattle.std.proofs.Common.{◌≡◌, ℕ, zero, suc, ◌+◌, ◌-◌, ◌<◌, ◌≤◌, true, false, leb, ◌⊎◌, List, [], ◌∷◌, ◌++◌, length, Some, None, sym, refl, ap, ◌∙◌, inl, inr, ⊎_elim, one-add, arith}
 use Rattle.std.proofs.lemmas.List.{length_push, get_or_append_left, get_or_push}
 use Rattle.std.proofs.lemmas.Bool.{lt-ltb, le-ltb, le-leb, lt-leb, and_parts, and_from, and_left, and_right, or_left, or_right, or_from, or_parts, eqb-true, eq-eqb, cases_Bool, cases_lt, true≢false, cond-true, cond-false}
 use Rattle.registers.specs.declared.pairs.Pair.{Pair}
@@ -216,17 +216,22 @@ pub number_not_held : (qs : List Pair) (p : Pair) → None ≡ number_in qs p �
 number_not_held qs p e =
     ⊎_elim (λ h. absurd (some_not_none (place qs p + 1) (sym (number_some qs p (place qs p) h refl) ∙ sym e))) (λ h. h) (cases_Bool (holds qs p))
 
--- What a call that asks for a pair's number may answer and leave, by cases.
-pub record Asked (room : ℕ) (qs : List Pair) (p : Pair) (answer : Option ℕ) (rs : List Pair) : Type 0 where
-  pub number : answer ≡ number_in (holding room qs p) p
-  pub list : rs ≡ holding room qs p
-
+-- The list with a pair held, by what a look before it found.
 module _ (room : ℕ) (qs : List Pair) (p : Pair) where
-  pub asked_held : (n : ℕ) → Some n ≡ number_in qs p → Asked room qs p (Some n) qs
-  asked_held n e = let k = holding_old room qs p (number_held qs p n e) in record { number = rw k e; list = sym k }
+  pub kept_held : (n : ℕ) → Some n ≡ number_in qs p → holding room qs p ≡ qs
+  kept_held n e = holding_old room qs p (number_held qs p n e)
 
-  pub asked_full : None ≡ number_in qs p → room ≤ length qs → Asked room qs p None qs
-  asked_full e l = let h = number_not_held qs p e in record { number = sym (numbered_full room qs p h l); list = sym (holding_full room qs p h l) }
+  pub kept_full : None ≡ number_in qs p → room ≤ length qs → holding room qs p ≡ qs
+  kept_full e l = holding_full room qs p (number_not_held qs p e) l
 
-  pub asked_new : None ≡ number_in qs p → length qs < room → Asked room qs p (Some (length qs + 1)) (qs ++ p ∷ [])
-  asked_new e l = let h = number_not_held qs p e in record { number = sym (numbered_new room qs p h l); list = sym (holding_new room qs p h l) }
+  pub kept_new : None ≡ number_in qs p → length qs < room → holding room qs p ≡ qs ++ p ∷ []
+  kept_new e l = holding_new room qs p (number_not_held qs p e) l
+
+pub number_push : (qs : List Pair) (p : Pair) → None ≡ number_in qs p → number_in (qs ++ p ∷ []) p ≡ Some (length qs + 1)
+number_push qs p e = number_some (qs ++ p ∷ []) p (length qs) (holds_push qs p) (place_push qs p (number_not_held qs p e))
+
+pub apart_new : (qs : List Pair) (p : Pair) → Apart qs → None ≡ number_in qs p → Apart (qs ++ p ∷ [])
+apart_new qs p a e = apart_push qs p a (number_not_held qs p e)
+
+-- what asking for a pair's number comes to, by what the look before it found
+pub ruleset looked_up = (kept_held, kept_full, kept_new, number_push, apart_new)

@@ -15,4 +15,3 @@ bucket_within n p h =
     let some : 0 < min n 65536 = omega arith in
     let less : mix p * min n 65536 < min n 65536 * 2 ^ 32 = rw (mul_comm (mix p) (min n 65536)) (mul-lt-mul_of_pos_left (mix_below p) some) in
     omega (arith, div_below (mix p * min n 65536) (2 ^ 32) (min n 65536) (lit< tt) less)
-

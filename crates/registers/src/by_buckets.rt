@@ -147,6 +147,7 @@ impl Register for Buckets {
         self.number_from(self.head_of(pair), pair)
     }
 
+    #[tactic(auto, using(crate::proofs::Listed::looked_up))]
     fn number(&mut self, pair: Pair) -> Option<u32> {
         let head = self.head_of(pair);
         if let Some(number) = self.number_from(head, pair) {

@@ -81,6 +81,7 @@ impl Register for Rows {
         Some(place as u32 + 1)
     }
 
+    #[tactic(auto, using(crate::proofs::Listed::looked_up))]
     fn number(&mut self, pair: Pair) -> Option<u32> {
         if let Some(number) = self.number_if_held(pair) {
             return Some(number);
