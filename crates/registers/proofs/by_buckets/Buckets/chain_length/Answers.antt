@@ -1,7 +1,7 @@
-use Rattle.std.proofs.Common.{◌<◌, arith, rules}
+use Rattle.std.proofs.Common.{◌<◌, rules}
 use Rattle.registers.specs.Bucketed.{pairs_of}
-use Rattle.registers.proofs.Chained.{counted_first, counted_next, counted_below, come_less}
-use Rattle.registers.proofs.Kept.{buckets, few, head_read, read, ended}
+use Rattle.registers.proofs.Chained.{counted_first}
+use Rattle.registers.proofs.Kept.{buckets, head_read, counted_on, counted_few, counted_all, links_back}
 use Rattle.registers.proofs.by_buckets.Buckets.chain_length.Goals as goal
 
 pub loop-slot-init : goal.loop-slot-init
@@ -11,25 +11,14 @@ loop-slot-init c =
 
 pub overflow_add-length : goal.overflow_add-length
 overflow_add-length c =
-    let s = c.args.self.now in
-    let r = read s c.loop-slot.number c.in-Some.slot c.in-Some.ensures in
-    let l : c.loop-slot.length < 32768 = omega (arith, counted_below (buckets s) (pairs_of s) c.args.bucket c.loop-slot.number c.loop-slot.length c.loop-slot.invariant r.some, few s) in
+    let l : c.loop-slot.length < 32768 = counted_few c.args.self.now _ _ c.in-Some.ensures c.args.bucket _ c.loop-slot.invariant in
     search rules
 
 pub loop-slot-smaller : goal.loop-slot-smaller
-loop-slot-smaller c =
-    let s = c.args.self.now in
-    let r = read s c.loop-slot.number c.in-Some.slot c.in-Some.ensures in
-    come_less (buckets s) (pairs_of s) c.loop-slot.number _ _ r.some r.link
+loop-slot-smaller c = links_back c.args.self.now _ _ c.in-Some.ensures
 
 pub loop-slot-preserved : goal.loop-slot-preserved
-loop-slot-preserved c =
-    let s = c.args.self.now in
-    let r = read s c.loop-slot.number c.in-Some.slot c.in-Some.ensures in
-    counted_next (buckets s) (pairs_of s) c.args.bucket c.loop-slot.number c.loop-slot.length _ c.loop-slot.invariant r.some r.link
+loop-slot-preserved c = counted_on c.args.self.now _ _ c.in-Some.ensures c.args.bucket _ c.loop-slot.invariant
 
 pub returns : goal.returns
-returns c =
-    let e = ended c.args.self.now c.loop-slot.number c.in_default.ensures c.loop-slot.invariant.low in
-    let f = rw e at c.loop-slot.invariant.rest in
-    omega (arith, f)
+returns c = counted_all c.args.self.now _ c.in_default.ensures c.args.bucket _ c.loop-slot.invariant
