@@ -1,13 +1,13 @@
 -- Chains: what the last of a bucket is, how a walk along a chain goes, and what a new pair at a chain's head leaves.
 -- Of the bucket function only this is used: it is a function of the pair. Assumes nothing.
-use Rattle.std.proofs.Common.{◌≡◌, ℕ, zero, suc, ◌+◌, ◌-◌, ◌<◌, ◌≤◌, max, false, eqb, List, [], ◌∷◌, ◌++◌, length, get_or, set, sym, refl, ap, ◌∙◌, ⊎_elim, add-one, arith}
+use Rattle.std.proofs.Common.{◌≡◌, ℕ, zero, suc, ◌+◌, ◌-◌, ◌<◌, ◌≤◌, false, eqb, List, [], ◌∷◌, ◌++◌, length, set, sym, refl, ap, ◌∙◌, ⊎_elim, add-one, arith}
 use Rattle.std.proofs.lemmas.List.{length_push, get_or_append_left, get_or_push, get_or-set_same, get_or-set_other}
 use Rattle.std.proofs.lemmas.Bool.{cases_Bool, cases_eq, cases_lt, eqb-true, eqb-false, eq-eqb, ne_eqb, cond-true, cond-false}
 use Rattle.registers.specs.declared.pairs.Pair.{Pair}
 use Rattle.registers.specs.declared.slots.Slot.{Slot}
 use Rattle.registers.specs.Pairs.{pair, at, same, holds}
 use Rattle.registers.specs.Mixing.{bucket_index}
-use Rattle.registers.specs.Chains.{last_in, next_at, members, chain_length, longest_below, Headed, Linked}
+use Rattle.registers.specs.Chains.{last_in, next_at, members, Headed, Linked}
 use Rattle.registers.proofs.Listed.{same_eq, holds_none}
 
 module _ (n : ℕ) (qs : List Pair) (b : ℕ) where
@@ -107,9 +107,6 @@ linked_push n table more qs p old new h i l =
     rw (f, last, last_push n qs p (bucket_index n p) (length qs) (omega arith)) new)
     (cases_lt i (length qs))
 
-pub headed_none : (n : ℕ) (heads : List ℕ) → ((b : ℕ) → b < n → get_or heads b 0 ≡ 0) → Headed heads n []
-headed_none n heads h = h
-
 -- How long a chain is.
 
 module _ (n : ℕ) (qs : List Pair) (b : ℕ) where
@@ -162,6 +159,3 @@ module _ (n : ℕ) (qs : List Pair) (b : ℕ) where
 
   pub counted_below : (number counted : ℕ) → Counted number counted → 0 < number → counted < length qs
   counted_below number counted c h = omega (arith, c.rest, members_here number h (c.belongs h), members_le (length qs))
-
-pub longest_more : (n : ℕ) (qs : List Pair) (b so_far here : ℕ) → so_far ≡ longest_below n qs b → here ≡ chain_length n qs b → max so_far here ≡ longest_below n qs (b + 1)
-longest_more n qs b so_far here e f = rw (add-one b, e, f)

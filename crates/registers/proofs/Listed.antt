@@ -19,10 +19,6 @@ same_self p = and_from _ _ (eq-eqb p.first p.first refl) (eq-eqb p.second p.seco
 pub same_as : (p q : Pair) → p ≡ q → same p q ≡ true
 same_as p q e = rw e (same_self q)
 
-pub same_swap : (p q : Pair) → same p q ≡ false → same q p ≡ false
-same_swap p q h =
-    ⊎_elim (λ e. absurd (true≢false (sym (same_as p q (sym (same_eq q p e))) ∙ h))) (λ e. e) (cases_Bool (same q p))
-
 -- A pair's place.
 
 pub place_new : (qs : List Pair) (p : Pair) → holds qs p ≡ false → place qs p ≡ length qs
@@ -99,9 +95,6 @@ holds_not [] p i h l = absurd (omega arith)
 holds_not (q ∷ qs) p zero h l = (or_parts (same q p) (holds qs p) h).0
 holds_not (q ∷ qs) p (suc i) h l = holds_not qs p i (or_parts (same q p) (holds qs p) h).1 (omega arith)
 
-pub apart_none : Apart []
-apart_none i j h = absurd (omega (arith, h.1))
-
 pub apart_push : (qs : List Pair) (p : Pair) → Apart qs → holds qs p ≡ false → Apart (qs ++ p ∷ [])
 apart_push qs p a h i j b =
     let n = length_push qs p in
@@ -136,17 +129,6 @@ number_none qs p h = ap from_place (place_in_none qs p h)
 
 some_not_none : {X : Type 0} (x : X) → Some x ≡ None → ⊥
 some_not_none x e = let z : ◌≡◌ {A = ℕ} 0 1 = cc in omega arith
-
--- what a place or a number that was given says
-pub some_place : (qs : List Pair) (p : Pair) (i : ℕ) → Some i ≡ place_in qs p → (holds qs p ≡ true) × (place qs p ≡ i) × (i < length qs)
-some_place qs p i e =
-    ⊎_elim (λ h. let k = e ∙ place_in_some qs p (place qs p) h refl in let m : place qs p ≡ i = cc in (h, m, omega (arith, place_old qs p h, m)))
-    (λ h. absurd (some_not_none i (e ∙ place_in_none qs p h)))
-    (cases_Bool (holds qs p))
-
-pub none_place : (qs : List Pair) (p : Pair) → None ≡ place_in qs p → holds qs p ≡ false
-none_place qs p e =
-    ⊎_elim (λ h. absurd (some_not_none (place qs p) (sym (place_in_some qs p (place qs p) h refl) ∙ sym e))) (λ h. h) (cases_Bool (holds qs p))
 
 pub some_number : (qs : List Pair) (p : Pair) (n : ℕ) → number_in qs p ≡ Some n → (holds qs p ≡ true) × (place qs p + 1 ≡ n)
 some_number qs p n e =
