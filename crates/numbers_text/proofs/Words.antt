@@ -9,7 +9,8 @@ use Rattle.registers.proofs.Listed.{place_old, holding_old, holding_new, holding
 use Rattle.numbers_text.specs.declared.telling.Word.{Word}
 use Rattle.numbers_text.specs.Told.{told, told_of, counted}
 
-module _ (number : Option ℕ) (count room : ℕ) (qs : List Pair) (p : Pair) (e : length qs ≡ count) (f : number ≡ number_in (holding room qs p) p) where
+-- what a register answered, with the count of its pairs before
+module _ (room : ℕ) (qs : List Pair) (p : Pair) (number : Option ℕ) (count : ℕ) (e : length qs ≡ count) (f : number ≡ number_in (holding room qs p) p) where
   told_as : told number count ≡ told_of room qs p
   told_as = grind (arith, common_steps, place_old qs p, numbered_old room qs p, numbered_new room qs p, numbered_full room qs p)
 
@@ -17,8 +18,8 @@ module _ (number : Option ℕ) (count room : ℕ) (qs : List Pair) (p : Pair) (e
   counted_as =
       grind (arith, common_steps, length_push qs p, place_old qs p, numbered_old room qs p, numbered_new room qs p, numbered_full room qs p, holding_old room qs p, holding_new room qs p, holding_full room qs p)
 
-pub told_right : (word : Word) (number : Option ℕ) (count : ℕ) → word ≡ told number count → (room : ℕ) (qs : List Pair) (p : Pair) → length qs ≡ count → number ≡ number_in (holding room qs p) p → word ≡ told_of room qs p
-told_right word number count is room qs p e f = is ∙ told_as number count room qs p e f
+  pub told_right : (word : Word) → word ≡ told number count → word ≡ told_of room qs p
+  told_right word is = is ∙ told_as
 
-pub counted_right : (n : ℕ) (number : Option ℕ) (count : ℕ) → n ≡ counted number count → (room : ℕ) (qs : List Pair) (p : Pair) → length qs ≡ count → number ≡ number_in (holding room qs p) p → n ≡ length (holding room qs p)
-counted_right n number count is room qs p e f = is ∙ counted_as number count room qs p e f
+  pub counted_right : (n : ℕ) → n ≡ counted number count → n ≡ length (holding room qs p)
+  counted_right n is = is ∙ counted_as

@@ -16,18 +16,23 @@ pub enum Word {
 }
 
 // The word for the number that a register gave, with the count of its pairs before.
+#[tactic(auto, using(crate::proofs::Words::told_right))]
 pub fn word_for(number: Option<u32>, count: u32) -> Word
     ensures value { result ≡ told number count }
     ensures right { (room : ℕ) (qs : List Pair) (p : Pair) → length qs ≡ count → number ≡ number_in (holding room qs p) p → result ≡ told_of room qs p }
 {
     match number {
-        Some(number) if number > count => Word::New,
-        Some(_) => Word::Known,
+        Some(number) => if number > count {
+            Word::New
+        } else {
+            Word::Known
+        },
         None => Word::Refused,
     }
 }
 
 // How many pairs the register has after it gave the number, with the count before.
+#[tactic(auto, using(crate::proofs::Words::counted_right))]
 pub fn count_after(number: Option<u32>, count: u32) -> u32
     ensures value { result ≡ counted number count }
     ensures right { (room : ℕ) (qs : List Pair) (p : Pair) → length qs ≡ count → number ≡ number_in (holding room qs p) p → result ≡ length (holding room qs p) }
