@@ -6,7 +6,7 @@ use Rattle.std.specs.Cmp.{nat_eq_equiv}
 use Rattle.std.specs.Cmp.Lexicographic.{options_equiv}
 use Rattle.std.proofs.lemmas.Cmp.{lists_equiv}
 use Rattle.registers.specs.declared.pairs.Pair.{Pair}
-use Rattle.registers.specs.Pairs.{at, holds, place, number_in, Apart}
+use Rattle.registers.specs.Pairs.{at, holds, place, number_in, Apart, Sound}
 use Rattle.registers.specs.Holding.{holding}
 use Rattle.registers.specs.Asking.{holding_all, numbers, Law, same_numbers}
 use Rattle.registers.proofs.Listed.{at_place, holds_append, place_append, number_some, some_number, pair_at_number, number_of_pair_at, holding_old, holding_new, holding_full}
@@ -48,14 +48,14 @@ one_pair qs p q m n e f g =
 pub one_number : (qs : List Pair) (p q : Pair) (m n : ℕ) → number_in qs p ≡ Some m → number_in qs q ≡ Some n → p ≡ q → m ≡ n
 one_number qs p q m n e f g = let h = sym e ∙ (ap (number_in qs) g ∙ f) in cc
 
-pub law : (room : ℕ) (start asked qs : List Pair) → qs ≡ holding_all room start asked → Apart qs → Law room asked (numbers room start asked) qs
+law : (room : ℕ) (start asked qs : List Pair) → qs ≡ holding_all room start asked → Apart qs → Law room asked (numbers room start asked) qs
 law room start asked qs is apart =
     let last : (i n : ℕ) → i < length asked → get_or (numbers room start asked) i None ≡ Some n → number_in qs (at asked i) ≡ Some n =
     λ i n l e. rw is (numbers_last room start asked i n l e) in
     record {
       lasting = last;
       stays = numbers_stay room qs;
-      back = λ p n. (pair_at_number qs p n, number_of_pair_at qs p n apart);
+      back = λ p m. (pair_at_number qs p m, number_of_pair_at qs p m apart);
       exact = λ i j m n l k e f. (one_pair _ _ _ m n (last i m l e) (last j n k f), one_number _ _ _ m n (last i m l e) (last j n k f));
     }
 
@@ -66,9 +66,11 @@ pub record Going (room : ℕ) (start asked : List Pair) (old : List (Option ℕ)
   pub row : take i given ++ numbers room qs (drop i asked) ≡ numbers room start asked
   pub beyond : drop i given ≡ drop i old
 
-module _ {room : ℕ} {start asked : List Pair} {old : List (Option ℕ)} {room-now : ℕ} {qs : List Pair} {given : List (Option ℕ)} {i : ℕ} (g : Going room start asked old room-now qs given i) (end : length asked ≤ i) where
-  pub going_list : qs ≡ holding_all room start asked
-  going_list = sym (ap (holding_all room qs) (drop_all i asked end)) ∙ g.list
+-- where all were asked for, the law holds of what was given
+pub asked_law : {room : ℕ} {start asked : List Pair} {old : List (Option ℕ)} {room-now : ℕ} {qs : List Pair} {given : List (Option ℕ)} {i : ℕ} →
+    Going room start asked old room-now qs given i → length asked ≤ i → Sound room-now qs → Law room asked (numbers room start asked) qs
+asked_law {room} {start} {asked} {i = i} g end sound =
+    law room start asked _ (sym (ap (holding_all room _) (drop_all i asked end)) ∙ g.list) sound.apart
 
 -- Rows that agree.
 

@@ -16,11 +16,18 @@ pub fn number_all<R: Register>(register: &mut R, asked: &[Pair], given: &mut [Op
     ensures same { R.room register.new ≡ R.room register.old }
     ensures law { Law (R.room register.old) (fitting asked.now given.old) (numbers (R.room register.old) (R.pairs register.old) (fitting asked.now given.old)) (R.pairs register.new) }
 {
-    let n = asked.len().min(given.len());
-    for (place, pair) in asked[..n].iter().enumerate() {
+    let fitting = fitting(asked, given);
+    for (place, pair) in fitting.iter().enumerate() {
         given[place] = register.number(*pair);
     }
-    n
+    fitting.len()
+}
+
+// The pairs that there are places for.
+fn fitting<'a>(asked: &'a [Pair], given: &[Option<u32>]) -> &'a [Pair]
+    ensures { result.now ≡ fitting asked.now given.now }
+{
+    &asked[..asked.len().min(given.len())]
 }
 
 // Asks two registers for the same pairs, as `number_all` does, and says whether they gave the same numbers.
