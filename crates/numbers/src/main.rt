@@ -41,8 +41,9 @@ fn size_or(word: Option<String>, usual: u32) -> anyhow::Result<u32> {
     let Some(word) = word else {
         return Ok(usual);
     };
-    read_number(word.as_bytes())
-        .ok_or_else(|| anyhow!("a size is a number of 32 bits; --help says more"))
+    read_number(word.as_bytes()).ok_or_else(|| anyhow!(
+        "a size is a number of 32 bits; --help says more"
+    ))
 }
 
 // The pairs of standard input, a line for each.
@@ -51,9 +52,7 @@ fn read_pairs(rt: &HostRuntime) -> anyhow::Result<Vec<Pair>> {
     let mut pairs = Vec::new(heap);
     for (number, line) in (1u64..).zip(BufReader::new(heap, rt.stdin())?.lines(heap)) {
         let Some(pair) = read_pair(line?.as_bytes()) else {
-            bail!(format!(in heap;
-                "line {number} is not two numbers with one space between"
-            )?);
+            bail!(format!(in heap; "line {number} is not two numbers with one space between")?);
         };
         pairs.push(pair)?;
     }

@@ -1,5 +1,5 @@
 -- Chains: the pairs of one bucket, from the last that arrived to the first.
-use Rattle.std.specs.Prelude.{◌≡◌, ℕ, zero, suc, ◌<◌, max, cond, List, map, length, ◌==◌, slice_index, slice_index_or}
+use Rattle.std.specs.Prelude.{◌≡◌, ℕ, zero, suc, ◌<◌, max, cond, List, map, length, count_by, ◌==◌, slice_index, slice_index_or}
 use Rattle.registers.specs.declared.pairs.Pair.{Pair}
 use Rattle.registers.specs.declared.slots.Slot.{Slot}
 use Rattle.registers.specs.Pairs.{pair, at}
@@ -31,13 +31,9 @@ Headed heads buckets qs = (b : ℕ) → b < buckets → slice_index heads b ≡ 
 abbrev pub Linked : List Slot → ℕ → List Pair → Type 0
 Linked table buckets qs = (i : ℕ) → i < length qs → next_at table i ≡ last_in buckets qs (bucket_index buckets (at qs i)) i
 
--- how many of the first k pairs belong to the bucket
-abbrev pub members : ℕ → List Pair → ℕ → ℕ → ℕ
-members buckets qs b zero = 0
-members buckets qs b (suc k) = cond (bucket_index buckets (at qs k) == b) (suc (members buckets qs b k)) (members buckets qs b k)
-
+-- how many of the pairs belong to the bucket
 abbrev pub chain_length : ℕ → List Pair → ℕ → ℕ
-chain_length buckets qs b = members buckets qs b (length qs)
+chain_length buckets qs b = count_by (λ q. bucket_index buckets q == b) qs
 
 -- the length of the longest chain of the first k buckets
 abbrev pub longest_below : ℕ → List Pair → ℕ → ℕ

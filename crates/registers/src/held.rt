@@ -13,7 +13,7 @@ pub(crate) struct Held<T> {
 }
 
 impl<T: Copy> Held<T> {
-    ghost use Rattle.std.specs.Prelude.{◌+◌, ◌<◌, List, [], ◌∷◌, ◌++◌, not, nat_lt, length};
+    ghost use Rattle.std.specs.Prelude.{◌+◌, ◌<◌, [], ◌∷◌, ◌++◌, length};
     ghost use Rattle.registers.specs.Places.{places_of, limit_of, item_at};
 
     // None is held yet.
