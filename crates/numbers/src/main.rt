@@ -1,7 +1,7 @@
 // Numbers pairs by a row register and a bucket register side by side, and prints what each gave.
 #![tactic(auto)]
 
-use anyhow::anyhow;
+use anyhow::{anyhow, bail, ensure};
 use numbers_text::{Answer, count_after, read_pair, word_for};
 use registers::{Buckets, Pair, Register, Rows, Slot, side_by_side};
 use std::alloc::{AllocError, Global};
@@ -25,50 +25,36 @@ fn main(rt: HostRuntime) -> anyhow::Result<()> {
 }
 
 fn run(rt: &HostRuntime) -> anyhow::Result<()> {
-    let mut args = env::args(rt)?;
-    let _program = args.next();
-    match args.next() {
-        Some(capacity) => run_with(rt, capacity.as_str(), args.next()),
-        None => compare(rt, CAPACITY, BUCKETS),
+    let mut words = env::args(rt)?.skip(1);
+    let first = words.next();
+    if first.as_deref() == Some("--help") {
+        rt.println(HELP)?;
+        return Ok(());
     }
+    let capacity = size_or(first, CAPACITY)?;
+    let buckets = size_or(words.next(), BUCKETS)?;
+    compare(rt, capacity, buckets)
 }
 
-fn run_with(rt: &HostRuntime, capacity: &str, buckets: Option<String>) -> anyhow::Result<()> {
-    if capacity == "--help" {
-        return help(rt);
-    }
-    let capacity = size(capacity)?;
-    match buckets {
-        Some(buckets) => compare(rt, capacity, size(buckets.as_str())?),
-        None => compare(rt, capacity, BUCKETS),
-    }
-}
-
-fn help(rt: &HostRuntime) -> anyhow::Result<()> {
-    rt.println(HELP)?;
-    Ok(())
-}
-
-fn size(text: &str) -> anyhow::Result<u32> {
-    match read_number(text.as_bytes()) {
-        Some(size) => Ok(size),
-        None => Err(anyhow!("a size is a number of 32 bits; --help says more")),
-    }
+// The size that was typed, or the usual one where none was.
+fn size_or(word: Option<String>, usual: u32) -> anyhow::Result<u32> {
+    let Some(word) = word else {
+        return Ok(usual);
+    };
+    read_number(word.as_bytes()).ok_or_else(|| anyhow!(
+        "a size is a number of 32 bits; --help says more"
+    ))
 }
 
 // The pairs of standard input, a line for each.
 fn read_pairs(rt: &HostRuntime) -> anyhow::Result<Vec<Pair>> {
     let heap = rt.alloc();
     let mut pairs = Vec::new(heap);
-    let mut number: u64 = 0;
-    for line in BufReader::new(heap, rt.stdin())?.lines(heap) {
-        number = number.saturating_add(1);
-        match read_pair(line?.as_bytes()) {
-            Some(pair) => pairs.push(pair)?,
-            None => return Err(anyhow!(format!(in heap;
-                "line {number} is not two numbers with one space between"
-            )?)),
-        }
+    for (number, line) in (1u64..).zip(BufReader::new(heap, rt.stdin())?.lines(heap)) {
+        let Some(pair) = read_pair(line?.as_bytes()) else {
+            bail!(format!(in heap; "line {number} is not two numbers with one space between")?);
+        };
+        pairs.push(pair)?;
     }
     Ok(pairs)
 }
@@ -103,9 +89,10 @@ fn number_and_print(
 }
 
 fn print_verdict(rt: &HostRuntime, agree: bool) -> anyhow::Result<()> {
-    if !agree {
-        return Err(anyhow!("the two columns differ, as they may where the capacities do"));
-    }
+    ensure!(
+        agree,
+        "the two columns differ, as they may where the capacities do"
+    );
     rt.println("the two columns agree")?;
     Ok(())
 }

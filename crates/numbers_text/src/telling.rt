@@ -16,15 +16,10 @@ pub enum Word {
 }
 
 // The word for the number that a register gave, with the count of its pairs before.
+#[tactic(auto, using(crate::proofs::Words::told_right))]
 pub fn word_for(number: Option<u32>, count: u32) -> Word
     ensures value { result ≡ told number count }
     ensures right { (room : ℕ) (qs : List Pair) (p : Pair) → length qs ≡ count → number ≡ number_in (holding room qs p) p → result ≡ told_of room qs p }
-{
-    word_by_count(number, count)
-}
-
-fn word_by_count(number: Option<u32>, count: u32) -> Word
-    ensures { result ≡ told number count }
 {
     match number {
         Some(number) => if number > count {
@@ -37,21 +32,12 @@ fn word_by_count(number: Option<u32>, count: u32) -> Word
 }
 
 // How many pairs the register has after it gave the number, with the count before.
+#[tactic(auto, using(crate::proofs::Words::counted_right))]
 pub fn count_after(number: Option<u32>, count: u32) -> u32
     ensures value { result ≡ counted number count }
     ensures right { (room : ℕ) (qs : List Pair) (p : Pair) → length qs ≡ count → number ≡ number_in (holding room qs p) p → result ≡ length (holding room qs p) }
 {
-    larger(number, count)
-}
-
-// The number, where it is one and larger, or else the count.
-fn larger(number: Option<u32>, count: u32) -> u32
-    ensures { result ≡ counted number count }
-{
-    match number {
-        Some(number) => number.max(count),
-        None => count,
-    }
+    number.unwrap_or(count).max(count)
 }
 
 impl fmt::Display for Word {

@@ -1,13 +1,14 @@
 -- Chains: what the last of a bucket is, how a walk along a chain goes, and what a new pair at a chain's head leaves.
 -- Of the bucket function only this is used: it is a function of the pair. Assumes nothing.
-use Rattle.std.proofs.Common.{◌≡◌, ℕ, zero, suc, ◌+◌, ◌-◌, ◌<◌, ◌≤◌, max, false, eqb, List, [], ◌∷◌, ◌++◌, length, get_or, set, sym, refl, ap, ◌∙◌, ⊎_elim, add-one, arith}
-use Rattle.std.proofs.lemmas.List.{length_push, get_or_append_left, get_or_push, get_or-set_same, get_or-set_other}
+use Rattle.std.proofs.Common.{◌≡◌, ℕ, zero, suc, ◌+◌, ◌-◌, ◌<◌, ◌≤◌, false, Bool, take, count_by, eqb, List, [], ◌∷◌, ◌++◌, length, set, sym, refl, ap, ◌∙◌, ⊎_elim, add-one, arith}
+use Rattle.std.proofs.lemmas.List.{take_all, length_push, get_or_append_left, get_or_push, get_or-set_same, get_or-set_other}
+use Rattle.std.proofs.lemmas.List.Sums.{count_by-le-length, count_by_more_yes, count_by_more_no}
 use Rattle.std.proofs.lemmas.Bool.{cases_Bool, cases_eq, cases_lt, eqb-true, eqb-false, eq-eqb, ne_eqb, cond-true, cond-false}
 use Rattle.registers.specs.declared.pairs.Pair.{Pair}
 use Rattle.registers.specs.declared.slots.Slot.{Slot}
 use Rattle.registers.specs.Pairs.{pair, at, same, holds}
 use Rattle.registers.specs.Mixing.{bucket_index}
-use Rattle.registers.specs.Chains.{last_in, next_at, members, chain_length, longest_below, Headed, Linked}
+use Rattle.registers.specs.Chains.{last_in, next_at, chain_length, Headed, Linked}
 use Rattle.registers.proofs.Listed.{same_eq, holds_none}
 
 module _ (n : ℕ) (qs : List Pair) (b : ℕ) where
@@ -107,48 +108,44 @@ linked_push n table more qs p old new h i l =
     rw (f, last, last_push n qs p (bucket_index n p) (length qs) (omega arith)) new)
     (cases_lt i (length qs))
 
-pub headed_none : (n : ℕ) (heads : List ℕ) → ((b : ℕ) → b < n → get_or heads b 0 ≡ 0) → Headed heads n []
-headed_none n heads h = h
-
 -- How long a chain is.
 
 module _ (n : ℕ) (qs : List Pair) (b : ℕ) where
-  members_le : (k : ℕ) → members n qs b k ≤ k
-  members_le zero = omega arith
-  members_le (suc k) =
-      ⊎_elim (λ e. omega (arith, cond-true (eqb (bucket_index n (at qs k)) b) (suc (members n qs b k)) (members n qs b k) e, members_le k))
-      (λ e. omega (arith, cond-false (eqb (bucket_index n (at qs k)) b) (suc (members n qs b k)) (members n qs b k) e, members_le k))
-      (cases_Bool (eqb (bucket_index n (at qs k)) b))
+  abbrev belonging : Pair → Bool
+  belonging q = eqb (bucket_index n q) b
+
+  abbrev members : ℕ → ℕ
+  members k = count_by belonging (take k qs)
 
   -- none comes after the last
-  members_last : (k : ℕ) → members n qs b k ≡ members n qs b (last_in n qs b k)
-  members_last zero = refl
-  members_last (suc k) =
-      ⊎_elim (λ e. rw (cond-true (eqb (bucket_index n (at qs k)) b) (suc k) (last_in n qs b k) e))
-      (λ e. cond-false (eqb (bucket_index n (at qs k)) b) (suc (members n qs b k)) (members n qs b k) e
-      ∙ (members_last k ∙ ap (members n qs b) (sym (cond-false (eqb (bucket_index n (at qs k)) b) (suc k) (last_in n qs b k) e))))
-      (cases_Bool (eqb (bucket_index n (at qs k)) b))
+  members_last : (k : ℕ) → k ≤ length qs → members k ≡ members (last_in n qs b k)
+  members_last zero l = refl
+  members_last (suc k) l =
+      ⊎_elim (λ e. rw (cond-true (belonging (at qs k)) (suc k) (last_in n qs b k) e))
+      (λ e. rw (← add-one k) (count_by_more_no belonging qs k (pair 0 0) (omega arith) e)
+      ∙ (members_last k (omega arith) ∙ ap members (sym (cond-false (belonging (at qs k)) (suc k) (last_in n qs b k) e))))
+      (cases_Bool (belonging (at qs k)))
 
-  members_here : (number : ℕ) → 0 < number → bucket_index n (at qs (number - 1)) ≡ b → members n qs b number ≡ members n qs b (number - 1) + 1
-  members_here zero h e = absurd (omega arith)
-  members_here (suc k) h e =
-      let d : suc k - 1 ≡ k = omega arith in
-      let f : bucket_index n (at qs k) ≡ b = rw (← d) e in
-      let c = cond-true (eqb (bucket_index n (at qs k)) b) (suc (members n qs b k)) (members n qs b k) (eq-eqb _ _ f) in
-      rw d (c ∙ sym (add-one (members n qs b k)))
+  members_here : (number : ℕ) → 0 < number → number ≤ length qs → bucket_index n (at qs (number - 1)) ≡ b → members number ≡ members (number - 1) + 1
+  members_here number h l e =
+      let d : number ≡ number - 1 + 1 = omega arith in
+      ap members d ∙ count_by_more_yes belonging qs (number - 1) (pair 0 0) (omega arith) (eq-eqb _ _ e)
+
+  members_all : members (length qs) ≡ chain_length n qs b
+  members_all = ap (count_by belonging) (take_all (length qs) qs (omega arith))
 
   -- A walk along the bucket's chain has come to a number, and counted those from there on.
   pub record Counted (number counted : ℕ) : Type 0 where
     pub low : number ≤ length qs
     pub belongs : 0 < number → bucket_index n (at qs (number - 1)) ≡ b
-    pub rest : counted + members n qs b number ≡ members n qs b (length qs)
+    pub rest : counted + members number ≡ chain_length n qs b
 
   pub counted_first : (number : ℕ) → number ≡ last_in n qs b (length qs) → Counted number 0
   counted_first number e =
       record {
         low = omega (arith, e, last_le n qs b (length qs));
         belongs = λ h. rw e (last_is n qs b (length qs) (rw (← e) h));
-        rest = omega (arith, members_last (length qs), ap (members n qs b) e);
+        rest = omega (arith, members_all, members_last (length qs) (omega arith), ap members e);
       }
 
   pub counted_next : (number counted next : ℕ) → Counted number counted → 0 < number → next ≡ last_in n qs (bucket_index n (at qs (number - 1))) (number - 1) → Counted next (counted + 1)
@@ -157,11 +154,8 @@ module _ (n : ℕ) (qs : List Pair) (b : ℕ) where
       record {
         low = omega (arith, e, last_le n qs b (number - 1), c.low);
         belongs = λ k. rw e (last_is n qs b (number - 1) (rw (← e) k));
-        rest = omega (arith, c.rest, members_here number h (c.belongs h), members_last (number - 1), ap (members n qs b) e);
+        rest = omega (arith, c.rest, members_here number h c.low (c.belongs h), members_last (number - 1) (omega (arith, c.low)), ap members e);
       }
 
   pub counted_below : (number counted : ℕ) → Counted number counted → 0 < number → counted < length qs
-  counted_below number counted c h = omega (arith, c.rest, members_here number h (c.belongs h), members_le (length qs))
-
-pub longest_more : (n : ℕ) (qs : List Pair) (b so_far here : ℕ) → so_far ≡ longest_below n qs b → here ≡ chain_length n qs b → max so_far here ≡ longest_below n qs (b + 1)
-longest_more n qs b so_far here e f = rw (add-one b, e, f)
+  counted_below number counted c h = omega (arith, c.rest, members_here number h c.low (c.belongs h), count_by-le-length belonging qs)

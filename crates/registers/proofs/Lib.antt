@@ -1,5 +1,4 @@
 pub mod Listed
-pub mod Fronts
 pub mod Mixed
 pub mod Slotted
 pub mod Chained

@@ -19,10 +19,6 @@ same_self p = and_from _ _ (eq-eqb p.first p.first refl) (eq-eqb p.second p.seco
 pub same_as : (p q : Pair) → p ≡ q → same p q ≡ true
 same_as p q e = rw e (same_self q)
 
-pub same_swap : (p q : Pair) → same p q ≡ false → same q p ≡ false
-same_swap p q h =
-    ⊎_elim (λ e. absurd (true≢false (sym (same_as p q (sym (same_eq q p e))) ∙ h))) (λ e. e) (cases_Bool (same q p))
-
 -- A pair's place.
 
 pub place_new : (qs : List Pair) (p : Pair) → holds qs p ≡ false → place qs p ≡ length qs
@@ -99,9 +95,6 @@ holds_not [] p i h l = absurd (omega arith)
 holds_not (q ∷ qs) p zero h l = (or_parts (same q p) (holds qs p) h).0
 holds_not (q ∷ qs) p (suc i) h l = holds_not qs p i (or_parts (same q p) (holds qs p) h).1 (omega arith)
 
-pub apart_none : Apart []
-apart_none i j h = absurd (omega (arith, h.1))
-
 pub apart_push : (qs : List Pair) (p : Pair) → Apart qs → holds qs p ≡ false → Apart (qs ++ p ∷ [])
 apart_push qs p a h i j b =
     let n = length_push qs p in
@@ -121,6 +114,13 @@ pub place_in_none : (qs : List Pair) (p : Pair) → holds qs p ≡ false → pla
 unfolding place_in
 place_in_none qs p h = cond-false _ _ _ h
 
+-- what a look through the list from the first on finds
+pub place_in_first : (qs : List Pair) (p : Pair) (i : ℕ) → i < length qs → same (at qs i) p ≡ true → ((k : ℕ) → k < i → same (at qs k) p ≡ false) → place_in qs p ≡ Some i
+place_in_first qs p i l h n = let f = place_first qs p i l h n in place_in_some qs p i f.0 f.1
+
+pub place_in_passed : (qs : List Pair) (p : Pair) → ((k : ℕ) → k < length qs → same (at qs k) p ≡ false) → place_in qs p ≡ None
+place_in_passed qs p n = place_in_none qs p (holds_none qs p n)
+
 pub number_some : (qs : List Pair) (p : Pair) (i : ℕ) → holds qs p ≡ true → place qs p ≡ i → number_in qs p ≡ Some (i + 1)
 number_some qs p i h e = ap from_place (place_in_some qs p i h e)
 
@@ -129,17 +129,6 @@ number_none qs p h = ap from_place (place_in_none qs p h)
 
 some_not_none : {X : Type 0} (x : X) → Some x ≡ None → ⊥
 some_not_none x e = let z : ◌≡◌ {A = ℕ} 0 1 = cc in omega arith
-
--- what a place or a number that was given says
-pub some_place : (qs : List Pair) (p : Pair) (i : ℕ) → Some i ≡ place_in qs p → (holds qs p ≡ true) × (place qs p ≡ i) × (i < length qs)
-some_place qs p i e =
-    ⊎_elim (λ h. let k = e ∙ place_in_some qs p (place qs p) h refl in let m : place qs p ≡ i = cc in (h, m, omega (arith, place_old qs p h, m)))
-    (λ h. absurd (some_not_none i (e ∙ place_in_none qs p h)))
-    (cases_Bool (holds qs p))
-
-pub none_place : (qs : List Pair) (p : Pair) → None ≡ place_in qs p → holds qs p ≡ false
-none_place qs p e =
-    ⊎_elim (λ h. absurd (some_not_none (place qs p) (sym (place_in_some qs p (place qs p) h refl) ∙ sym e))) (λ h. h) (cases_Bool (holds qs p))
 
 pub some_number : (qs : List Pair) (p : Pair) (n : ℕ) → number_in qs p ≡ Some n → (holds qs p ≡ true) × (place qs p + 1 ≡ n)
 some_number qs p n e =
@@ -209,5 +198,22 @@ pub number_not_held : (qs : List Pair) (p : Pair) → None ≡ number_in qs p �
 number_not_held qs p e =
     ⊎_elim (λ h. absurd (some_not_none (place qs p + 1) (sym (number_some qs p (place qs p) h refl) ∙ sym e))) (λ h. h) (cases_Bool (holds qs p))
 
-pub numbered_held : (room : ℕ) (qs : List Pair) (p : Pair) (n : ℕ) → Some n ≡ number_in qs p → Some n ≡ number_in (holding room qs p) p
-numbered_held room qs p n e = e ∙ ap (λ rs. number_in rs p) (sym (holding_old room qs p (number_held qs p n e)))
+-- The list with a pair held, by what a look before it found.
+module _ (room : ℕ) (qs : List Pair) (p : Pair) where
+  pub kept_held : (n : ℕ) → Some n ≡ number_in qs p → holding room qs p ≡ qs
+  kept_held n e = holding_old room qs p (number_held qs p n e)
+
+  pub kept_full : None ≡ number_in qs p → room ≤ length qs → holding room qs p ≡ qs
+  kept_full e l = holding_full room qs p (number_not_held qs p e) l
+
+  pub kept_new : None ≡ number_in qs p → length qs < room → holding room qs p ≡ qs ++ p ∷ []
+  kept_new e l = holding_new room qs p (number_not_held qs p e) l
+
+pub number_push : (qs : List Pair) (p : Pair) → None ≡ number_in qs p → number_in (qs ++ p ∷ []) p ≡ Some (length qs + 1)
+number_push qs p e = number_some (qs ++ p ∷ []) p (length qs) (holds_push qs p) (place_push qs p (number_not_held qs p e))
+
+pub apart_new : (qs : List Pair) (p : Pair) → Apart qs → None ≡ number_in qs p → Apart (qs ++ p ∷ [])
+apart_new qs p a e = apart_push qs p a (number_not_held qs p e)
+
+-- what asking for a pair's number comes to, by what the look before it found
+pub ruleset looked_up = (kept_held, kept_full, kept_new, number_push, apart_new)

@@ -1,5 +1,5 @@
 -- A pair's bucket lies within the table. Assumes nothing.
-use Rattle.std.proofs.Common.{◌≡◌, ℕ, ◌*◌, ◌/◌, ◌^◌, ◌<◌, min, mul_comm, arith, lit<}
+use Rattle.std.proofs.Common.{ℕ, ◌*◌, ◌^◌, ◌<◌, min, mul_comm, arith, lit<}
 use native.Mathlib.Nat.{mul-lt-mul_of_pos_left}
 use Rattle.std.proofs.lemmas.Nat.{div_below, mod_below}
 use Rattle.registers.specs.declared.pairs.Pair.{Pair}
@@ -15,7 +15,3 @@ bucket_within n p h =
     let some : 0 < min n 65536 = omega arith in
     let less : mix p * min n 65536 < min n 65536 * 2 ^ 32 = rw (mul_comm (mix p) (min n 65536)) (mul-lt-mul_of_pos_left (mix_below p) some) in
     omega (arith, div_below (mix p * min n 65536) (2 ^ 32) (min n 65536) (lit< tt) less)
-
-pub bucket_by : (n : ℕ) (p : Pair) (x used : ℕ) → x ≡ mix p → used ≡ min n 65536 → x * used / 2 ^ 32 ≡ bucket_index n p
-unfolding bucket_index
-bucket_by n p x used e f = rw (e, f)

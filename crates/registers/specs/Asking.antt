@@ -1,6 +1,8 @@
 -- Asking for the numbers of pairs, one after another.
 -- All of it follows from the capacity and the list at the beginning, whichever register it is.
-use Rattle.std.specs.Prelude.{◌≡◌, ℕ, ◌<◌, Bool, true, false, ◌&&◌, ◌↔◌, List, [], ◌∷◌, ◌++◌, length, take, drop, Some, None, Option, ◌==◌, slice_index_or}
+use Rattle.std.specs.Prelude.{◌≡◌, ℕ, ◌<◌, Bool, ◌↔◌, List, [], ◌∷◌, ◌++◌, length, take, drop, Some, None, Option, ◌==◌, slice_index_or}
+use Rattle.std.specs.Option.{option_eq}
+use Rattle.std.specs.Cmp.Lexicographic.{pointwise}
 use Rattle.registers.specs.declared.pairs.Pair.{Pair}
 use Rattle.registers.specs.Pairs.{at, number_in, pair_at}
 use Rattle.registers.specs.Holding.{holding}
@@ -34,16 +36,6 @@ pub record Law (room : ℕ) (asked : List Pair) (given : List (Option ℕ)) (qs 
   -- two numbers that were given are equal exactly where the pairs are
   pub exact : (i j m n : ℕ) → i < length asked → j < length asked → slice_index_or given i None ≡ Some m → slice_index_or given j None ≡ Some n → (m ≡ n) ↔ (at asked i ≡ at asked j)
 
--- Two answers, and two rows of answers, that agree.
-
-abbrev pub same_number : Option ℕ → Option ℕ → Bool
-same_number None None = true
-same_number None (Some n) = false
-same_number (Some m) None = false
-same_number (Some m) (Some n) = m == n
-
+-- two rows of answers that agree: as many, and the same at each place
 abbrev pub same_numbers : List (Option ℕ) → List (Option ℕ) → Bool
-same_numbers [] [] = true
-same_numbers [] (y ∷ ys) = false
-same_numbers (x ∷ xs) [] = false
-same_numbers (x ∷ xs) (y ∷ ys) = same_number x y && same_numbers xs ys
+same_numbers = pointwise (option_eq (λ m n. m == n))

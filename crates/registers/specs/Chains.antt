@@ -1,17 +1,14 @@
 -- Chains: the pairs of one bucket, from the last that arrived to the first.
-use Rattle.std.specs.Prelude.{◌≡◌, ℕ, zero, suc, ◌<◌, ◌≤◌, min, max, cond, List, map, length, take, vec_items, vec_len, Vec, ◌==◌, slice_index, slice_index_or}
-use Rattle.std.proofs.Common.{arith, length-take}
-use Rattle.std.proofs.lemmas.List.{length-map}
-use Rattle.std.proofs.lemmas.Bool.{cond_both}
-use Rattle.std.specs.declared.alloc.Global.{Global}
+use Rattle.std.specs.Prelude.{◌≡◌, ℕ, zero, suc, ◌<◌, max, cond, List, map, length, count_by, ◌==◌, slice_index, slice_index_or}
 use Rattle.registers.specs.declared.pairs.Pair.{Pair}
 use Rattle.registers.specs.declared.slots.Slot.{Slot}
-use Rattle.registers.specs.Pairs.{pair, at, Apart, Sound}
+use Rattle.registers.specs.Pairs.{pair, at}
+use Rattle.registers.specs.Places.{within_limit}
 use Rattle.registers.specs.Mixing.{bucket_index}
 
--- the pairs in the first places of a table
-abbrev pub pairs_in : ℕ → List Slot → List Pair
-pairs_in n table = map (λ (s : Slot). s.pair) (take n table)
+-- the pairs in the places
+abbrev pub pairs_in : List Slot → List Pair
+pairs_in = map (λ (s : Slot). s.pair)
 
 -- the number that the place has for the next in its chain; 0 ends the chain
 abbrev pub next_at : List Slot → ℕ → ℕ
@@ -19,7 +16,7 @@ next_at table i = (slice_index_or table i (record { pair = pair 0 0; next = 0 })
 
 -- the capacity over a table of so many places, with so many buckets
 abbrev pub within_buckets : ℕ → ℕ → ℕ
-within_buckets places buckets = cond (buckets == 0) 0 (min places 32768)
+within_buckets places buckets = cond (buckets == 0) 0 (within_limit places)
 
 -- the number of the last among the first k pairs that belongs to the bucket; 0 where none does
 abbrev pub last_in : ℕ → List Pair → ℕ → ℕ → ℕ
@@ -34,13 +31,9 @@ Headed heads buckets qs = (b : ℕ) → b < buckets → slice_index heads b ≡ 
 abbrev pub Linked : List Slot → ℕ → List Pair → Type 0
 Linked table buckets qs = (i : ℕ) → i < length qs → next_at table i ≡ last_in buckets qs (bucket_index buckets (at qs i)) i
 
--- how many of the first k pairs belong to the bucket
-abbrev pub members : ℕ → List Pair → ℕ → ℕ → ℕ
-members buckets qs b zero = 0
-members buckets qs b (suc k) = cond (bucket_index buckets (at qs k) == b) (suc (members buckets qs b k)) (members buckets qs b k)
-
+-- how many of the pairs belong to the bucket
 abbrev pub chain_length : ℕ → List Pair → ℕ → ℕ
-chain_length buckets qs b = members buckets qs b (length qs)
+chain_length buckets qs b = count_by (λ q. bucket_index buckets q == b) qs
 
 -- the length of the longest chain of the first k buckets
 abbrev pub longest_below : ℕ → List Pair → ℕ → ℕ
@@ -49,11 +42,3 @@ longest_below buckets qs (suc b) = max (longest_below buckets qs b) (chain_lengt
 
 abbrev pub longest_of_chains : ℕ → List Pair → ℕ
 longest_of_chains buckets qs = longest_below buckets qs buckets
-
-pub buckets_sound : (n : ℕ) (table : Vec Slot Global) (buckets : ℕ) → n ≤ within_buckets (vec_len table) buckets → Apart (pairs_in n (vec_items table)) → Sound (within_buckets (vec_len table) buckets) (pairs_in n (vec_items table))
-buckets_sound n table buckets h a =
-    record {
-      most = cond_both (buckets == 0) 0 (min (vec_len table) 32768) (λ m. m ≤ 32768) (λ _. omega arith) (λ _. omega arith);
-      within = omega (arith, length-map (take n (vec_items table)) (λ (s : Slot). s.pair), length-take n (vec_items table));
-      apart = a;
-    }

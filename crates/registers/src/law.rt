@@ -1,6 +1,6 @@
 // What holds of every register, said of the meaning alone.
 ghost use Rattle.std.specs.Prelude.{◌≡◌, ◌≤◌, true, length, take};
-ghost use Rattle.registers.specs.Asking.{holding_all, numbers, fitting, answered, Law, same_number, same_numbers};
+ghost use Rattle.registers.specs.Asking.{holding_all, numbers, fitting, answered, Law, same_numbers};
 
 use crate::meaning::Register;
 use crate::pairs::Pair;
@@ -16,34 +16,18 @@ pub fn number_all<R: Register>(register: &mut R, asked: &[Pair], given: &mut [Op
     ensures same { R.room register.new ≡ R.room register.old }
     ensures law { Law (R.room register.old) (fitting asked.now given.old) (numbers (R.room register.old) (R.pairs register.old) (fitting asked.now given.old)) (R.pairs register.new) }
 {
-    let n = places_for(asked, given);
-    ask_first(register, asked, given, n);
-    n
-}
-
-// How many of the pairs there are places for.
-fn places_for(asked: &[Pair], given: &[Option<u32>]) -> usize
-    ensures value { result ≡ length (fitting asked.now given.now) }
-    ensures asked { result ≤ length asked.now }
-    ensures given { result ≤ length given.now }
-{
-    asked.len().min(given.len())
-}
-
-// Asks for the first `n`, which there are places for.
-fn ask_first<R: Register>(register: &mut R, asked: &[Pair], given: &mut [Option<u32>], n: usize)
-    requires value { n ≡ length (fitting asked.now given.old) }
-    requires asked { n ≤ length asked.now }
-    requires given { n ≤ length given.old }
-    ensures front { take n given.new ≡ numbers (R.room register.old) (R.pairs register.old) (fitting asked.now given.old) }
-    ensures answers { given.new ≡ answered (R.room register.old) (R.pairs register.old) asked.now given.old }
-    ensures after { R.pairs register.new ≡ holding_all (R.room register.old) (R.pairs register.old) (fitting asked.now given.old) }
-    ensures same { R.room register.new ≡ R.room register.old }
-    ensures law { Law (R.room register.old) (fitting asked.now given.old) (numbers (R.room register.old) (R.pairs register.old) (fitting asked.now given.old)) (R.pairs register.new) }
-{
-    for i in 0..n {
-        given[i] = register.number(asked[i]);
+    let fitting = fitting(asked, given);
+    for (place, pair) in fitting.iter().enumerate() {
+        given[place] = register.number(*pair);
     }
+    fitting.len()
+}
+
+// The pairs that there are places for.
+fn fitting<'a>(asked: &'a [Pair], given: &[Option<u32>]) -> &'a [Pair]
+    ensures { result.now ≡ fitting asked.now given.now }
+{
+    &asked[..asked.len().min(given.len())]
 }
 
 // Asks two registers for the same pairs, as `number_all` does, and says whether they gave the same numbers.
@@ -66,39 +50,5 @@ pub fn side_by_side<L: Register, R: Register>(
 {
     let n = number_all(left, asked, left_given);
     let m = number_all(right, asked, right_given);
-    same_fronts(left_given, n, right_given, m)
-}
-
-// Whether the first `n` answers of one row are the first `m` of another.
-fn same_fronts(left: &[Option<u32>], n: usize, right: &[Option<u32>], m: usize) -> bool
-    requires left { n ≤ length left.now }
-    requires right { m ≤ length right.now }
-    ensures value { result ≡ same_numbers (take n left.now) (take m right.now) }
-    ensures alike { take n left.now ≡ take m right.now → result ≡ true }
-{
-    n == m && same_answers(left, right, n)
-}
-
-// Whether two rows begin with the same `n` answers.
-fn same_answers(left: &[Option<u32>], right: &[Option<u32>], n: usize) -> bool
-    requires left { n ≤ length left.now }
-    requires right { n ≤ length right.now }
-    ensures { result ≡ same_numbers (take n left.now) (take n right.now) }
-{
-    for i in 0..n {
-        if !same_number(left[i], right[i]) {
-            return false;
-        }
-    }
-    true
-}
-
-fn same_number(left: Option<u32>, right: Option<u32>) -> bool
-    ensures { result ≡ same_number left right }
-{
-    match (left, right) {
-        (Some(m), Some(n)) => m == n,
-        (None, None) => true,
-        _ => false,
-    }
+    left_given[..n] == right_given[..m]
 }

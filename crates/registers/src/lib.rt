@@ -3,6 +3,7 @@
 
 mod by_buckets;
 mod by_rows;
+mod held;
 mod law;
 mod meaning;
 mod mixing;

@@ -9,6 +9,7 @@ const MOST_BUCKETS: usize = 65_536;
 
 // Two rounds of an odd multiplier, with the upper bits of the first brought down in between,
 // so that neighbours in either half fall far apart in the upper bits.
+#[tactic(auto, unfolding(crate::specs::Mixing::mix))]
 fn mixed(pair: Pair) -> u32
     ensures { result ≡ mix pair }
 {
@@ -19,6 +20,7 @@ fn mixed(pair: Pair) -> u32
 }
 
 // The mixed number is scaled down to the buckets by a product and a shift, which is cheaper than a remainder.
+#[tactic(auto, using(crate::proofs::Mixed::bucket_within), unfolding(crate::specs::Mixing::bucket_index))]
 pub(crate) fn bucket_of(pair: Pair, buckets: usize) -> usize
     requires { 0 < buckets }
     ensures value { result ≡ bucket_index buckets pair }

@@ -1,5 +1,6 @@
 -- Words and numbers as they are typed. Assumes nothing.
-use Rattle.std.specs.Prelude.{ℕ, suc, ◌+◌, ◌-◌, ◌*◌, ◌^◌, cond, ◌&&◌, List, [], ◌∷◌, take, drop, Some, None, Option, ◌==◌, nat_le, nat_lt}
+use Rattle.std.specs.List.{position_or_len}
+use Rattle.std.specs.Prelude.{ℕ, ◌+◌, ◌-◌, ◌*◌, ◌^◌, cond, ◌&&◌, List, [], ◌∷◌, take, drop, Some, None, Option, ◌==◌, nat_le, nat_lt}
 
 -- the number so far with one more digit, where the byte is a digit and 32 bits hold the number
 abbrev pub with_digit : ℕ → ℕ → Option ℕ
@@ -18,8 +19,7 @@ number_typed (c ∷ cs) = value_after (c ∷ cs) (Some 0)
 
 -- the place of the first space; the length where there is none
 abbrev pub space_place : List ℕ → ℕ
-space_place [] = 0
-space_place (c ∷ cs) = cond (c == 32) 0 (suc (space_place cs))
+space_place = position_or_len (λ c. c == 32)
 
 -- all before the first space, and all behind it
 abbrev pub first_word : List ℕ → List ℕ

@@ -1,37 +1,30 @@
-use Rattle.std.proofs.Common.{◌+◌, ◌<◌, Some, vec_len, sym, refl, ap, ◌∙◌, arith}
-use Rattle.registers.specs.Chains.{within_buckets}
-use Rattle.registers.proofs.Listed.{number_not_held, holding_new, numbered_new}
-use Rattle.registers.proofs.Slotted.{room_within}
-use Rattle.registers.proofs.Kept.{held_pairs, buckets, count_is, pairs_after, apart_after, headed_after, linked_after}
+use Rattle.std.proofs.Common.{vec_len, sym, ap, cond, Some, eqb, arith}
+use Rattle.std.proofs.lemmas.List.{length_push}
+use Rattle.registers.specs.Places.{places_of}
+use Rattle.registers.specs.Bucketed.{pairs_of, room_of}
+use Rattle.registers.proofs.Listed.{kept_new, number_push, apart_new}
+use Rattle.registers.proofs.Kept.{count_is, pairs_after, headed_after, linked_after}
 use Rattle.registers.proofs.by_buckets.Buckets.append.Goals as goal
-
-pub index_mut-requires : goal.index_mut-requires
-index_mut-requires c =
-    let s = c.args.self.now in
-    omega (arith, (room_within (s.count + 1) (vec_len s.table) (buckets s) (omega (arith, count_is s, c.requires.free))).0)
 
 pub invariant_of-self : goal.invariant_of-self
 invariant_of-self c =
     let s = c.args.self.now in
     let p = c.args.pair in
     let next = c.args.head in
-    let new = number_not_held (held_pairs s) p (sym c.requires.new) in
-    let free : s.count < within_buckets (vec_len s.table) (buckets s) = omega (arith, count_is s, c.requires.free) in
+    let free = c.requires.free in
     record {
-      within = omega (arith, free);
-      apart = apart_after s p next free new;
-      headed = headed_after s p next free c.len.result c.bucket_of-bucket.result c.len.ensures c.bucket_of-bucket.ensures.value;
-      linked = linked_after s p next free c.requires.linked;
+      within = rw (c.push-number.ensures.after, ap (λ n. cond (eqb (vec_len s.heads) 0) 0 n) c.push-number.ensures.same) (omega (arith, length_push (places_of s.held) (record { pair = p; next = next }), count_is s, free));
+      apart = rw (c.push-number.ensures.after, pairs_after s p next free) (apart_new (pairs_of s) p s.apart (sym c.requires.new));
+      headed = rw (c.push-number.ensures.after, c.push-number.ensures.number, c.bucket_of-bucket.ensures.value, c.len.ensures) (headed_after s p next free);
+      linked = rw c.push-number.ensures.after (linked_after s p next free c.requires.linked);
     }
 
 pub returns : goal.returns
 returns c =
     let s = c.args.self.now in
-    let p = c.args.pair in
-    let new = number_not_held (held_pairs s) p (sym c.requires.new) in
-    let free : s.count < within_buckets (vec_len s.table) (buckets s) = omega (arith, count_is s, c.requires.free) in
+    let k = kept_new (room_of s) (pairs_of s) c.args.pair (sym c.requires.new) c.requires.free in
     record {
-      answer = ap (λ n. Some (n + 1)) (sym (count_is s)) ∙ sym (numbered_new _ _ _ new c.requires.free);
-      after = pairs_after s p c.args.head free ∙ sym (holding_new _ _ _ new c.requires.free);
-      same = refl;
+      answer = rw (k, number_push (pairs_of s) c.args.pair (sym c.requires.new), count_is s) (ap Some c.push-number.ensures.number);
+      after = rw (c.push-number.ensures.after, k) (pairs_after s c.args.pair c.args.head c.requires.free);
+      same = ap (λ n. cond (eqb (vec_len s.heads) 0) 0 n) c.push-number.ensures.same;
     }

@@ -1,30 +1,24 @@
-use Rattle.std.proofs.Common.{◌-◌, ◌<◌, arith, rules}
-use Rattle.registers.proofs.Chained.{counted_first, counted_next, counted_below, come_less}
-use Rattle.registers.proofs.Kept.{held_pairs, buckets, fits, few, count_is, head_read, link_read}
+use Rattle.std.proofs.Common.{◌<◌, rules}
+use Rattle.registers.specs.Bucketed.{pairs_of}
+use Rattle.registers.proofs.Chained.{counted_first}
+use Rattle.registers.proofs.Kept.{buckets, head_read, counted_on, counted_few, counted_all, links_back}
 use Rattle.registers.proofs.by_buckets.Buckets.chain_length.Goals as goal
 
-pub loop-number-init : goal.loop-number-init
-loop-number-init c =
+pub loop-slot-init : goal.loop-slot-init
+loop-slot-init c =
     let s = c.args.self.now in
-    counted_first (buckets s) (held_pairs s) c.args.bucket _ (head_read s c.args.bucket c.index-number.result.now c.requires c.index-number.ensures)
+    counted_first (buckets s) (pairs_of s) c.args.bucket _ (head_read s c.args.bucket c.index-number.result.now c.requires c.index-number.ensures)
 
 pub overflow_add-length : goal.overflow_add-length
 overflow_add-length c =
-    let s = c.args.self.now in
-    let l : c.loop-number.length < 32768 = omega (arith, counted_below (buckets s) (held_pairs s) c.args.bucket c.loop-number.number c.loop-number.length c.loop-number.invariant (omega arith), few s, count_is s) in
+    let l : c.loop-slot.length < 32768 = counted_few c.args.self.now _ _ c.in-Some.ensures c.args.bucket _ c.loop-slot.invariant in
     search rules
 
-pub index-requires : goal.index-requires
-index-requires c = let s = c.args.self.now in omega (arith, count_is s, fits s, s.table.ok.0)
+pub loop-slot-smaller : goal.loop-slot-smaller
+loop-slot-smaller c = links_back c.args.self.now _ _ c.in-Some.ensures
 
-pub loop-number-smaller : goal.loop-number-smaller
-loop-number-smaller c =
-    let s = c.args.self.now in
-    let l : c.loop-number.number - 1 < s.count = omega (arith, count_is s) in
-    come_less (buckets s) (held_pairs s) c.loop-number.number _ _ (omega arith) (link_read s (c.loop-number.number - 1) c.index.result.now l c.index.ensures)
+pub loop-slot-preserved : goal.loop-slot-preserved
+loop-slot-preserved c = counted_on c.args.self.now _ _ c.in-Some.ensures c.args.bucket _ c.loop-slot.invariant
 
-pub loop-number-preserved : goal.loop-number-preserved
-loop-number-preserved c =
-    let s = c.args.self.now in
-    let l : c.loop-number.number - 1 < s.count = omega (arith, count_is s) in
-    counted_next (buckets s) (held_pairs s) c.args.bucket c.loop-number.number c.loop-number.length _ c.loop-number.invariant (omega arith) (link_read s (c.loop-number.number - 1) c.index.result.now l c.index.ensures)
+pub returns : goal.returns
+returns c = counted_all c.args.self.now _ c.in_default.ensures c.args.bucket _ c.loop-slot.invariant
