@@ -1,5 +1,5 @@
 -- Links: how a closed book leads from each word to the next word of the same group, and what it lists of a repeat. Assumes nothing.
-use Rattle.std.specs.Prelude.{◌≡◌, ℕ, zero, suc, ◌+◌, ◌-◌, ◌<◌, ◌≤◌, cond, ◌&&◌, List, [], ◌∷◌, ◌++◌, length, get_or, drop, Ok, Err, filter, Result, ◌==◌, nat_eq, nat_le, nat_lt, slice_index, slice_index_or}
+use Rattle.std.specs.Prelude.{◌≡◌, ℕ, zero, suc, ◌+◌, ◌-◌, ◌<◌, ◌≤◌, cond, ◌&&◌, List, [], ◌∷◌, ◌++◌, map, length, get_or, drop, Ok, Err, filter, Result, ◌==◌, nat_eq, nat_le, nat_lt, slice_index, slice_index_or}
 use Rattle.std.specs.List.{range_with_len}
 use Rattle.names.specs.declared.refusals.Refusal.{Refusal}
 use Rattle.names.specs.declared.refusals.Refusal.TheVariants.{NoSuchRepeat, TableTooShort}
@@ -39,6 +39,11 @@ pub record Started (es : List Entry) : Type 0 where
 pub record Linked (es : List Entry) (later : List ℕ) : Type 0 where
   pub long : length later ≡ length es
   pub each : (p : ℕ) → p < length es → slice_index later p ≡ later_of es p
+
+-- what a closed book has found: where each position leads, and the first end of each repeat
+pub record Indexed (es : List Entry) (later firsts : List ℕ) : Type 0 where
+  pub linked : Linked es later
+  pub listed : firsts ≡ map first (repeats_of es)
 
 -- the table has, for each group that occurs, the first position of it
 pub record Opened (es : List Entry) (table : List ℕ) : Type 0 where

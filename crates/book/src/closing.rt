@@ -2,10 +2,10 @@
 ghost use Rattle.std.specs.Prelude.{◌≡◌, [], IfOk, MatchResult};
 ghost use Rattle.book.specs.States.{fresh};
 ghost use Rattle.book.specs.Taken.{Holds};
-ghost use Rattle.book.specs.Books.{taking_state, closed_state};
+ghost use Rattle.book.specs.Books.{held};
 ghost use Rattle.book.specs.PassageLaws.{PassageLaws};
 
-use crate::books::{ClosedBook, Index, MOST_WORDS, TakingBook};
+use crate::books::{Book, Closed, ClosedBook, Index, MOST_WORDS, Taking, TakingBook};
 use crate::linking::link_repeats;
 use registers::{MOST_PAIRS, Register};
 use std::alloc::{AllocError, Global};
@@ -23,12 +23,12 @@ impl Index {
     }
 }
 
-impl<R: Register> TakingBook<R> {
+impl<R: Register> Book<R, Taking> {
     // A book without words over the register, which is handed back where memory is wanting.
     pub fn new(heap: Global, register: R) -> Result<TakingBook<R>, R>
-        ensures value { MatchResult result (λ b. taking_state R.pairs R.room b ≡ fresh (R.pairs register) (R.room register)) (λ back. back ≡ register) }
+        ensures value { MatchResult result (λ b. held b ≡ fresh (R.pairs register) (R.room register)) (λ back. back ≡ register) }
         ensures laws { PassageLaws }
-        ensures holds { IfOk result (λ b. Holds (R.pairs register) [] (taking_state R.pairs R.room b)) }
+        ensures holds { IfOk result (λ b. Holds (R.pairs register) [] (held b)) }
     {
         let Ok(entries) = Vec::with_capacity(heap, MOST_WORDS) else {
             return Err(register);
@@ -39,24 +39,25 @@ impl<R: Register> TakingBook<R> {
         let Ok(index) = Index::new(heap) else {
             return Err(register);
         };
-        Ok(TakingBook {
+        Ok(Book {
             register,
             entries,
             tops,
-            index,
+            stage: Taking { index },
         })
     }
 
     // Closes the book: one pass links its words, one gathers its repeats.
     pub fn close(self) -> ClosedBook<R>
-        ensures { closed_state R.pairs R.room result ≡ taking_state R.pairs R.room self }
+        ensures { held result ≡ held self }
     {
-        let TakingBook {
+        let Book {
             register,
             entries,
             tops,
-            index,
+            stage,
         } = self;
+        let Taking { index } = stage;
         let Index {
             mut latest,
             mut later,
@@ -68,35 +69,38 @@ impl<R: Register> TakingBook<R> {
             &mut later,
             &mut firsts,
         );
-        ClosedBook {
+        Book {
             register,
             entries,
             tops,
-            index: Index {
-                latest,
-                later,
-                firsts,
+            stage: Closed {
+                index: Index {
+                    latest,
+                    later,
+                    firsts,
+                },
             },
         }
     }
 }
 
-impl<R: Register> ClosedBook<R> {
+impl<R: Register> Book<R, Closed> {
     // Opens the book again, to take more words.
     pub fn reopen(self) -> TakingBook<R>
-        ensures { taking_state R.pairs R.room result ≡ closed_state R.pairs R.room self }
+        ensures { held result ≡ held self }
     {
-        let ClosedBook {
+        let Book {
             register,
             entries,
             tops,
-            index,
+            stage,
         } = self;
-        TakingBook {
+        let Closed { index } = stage;
+        Book {
             register,
             entries,
             tops,
-            index,
+            stage: Taking { index },
         }
     }
 
@@ -104,11 +108,11 @@ impl<R: Register> ClosedBook<R> {
     pub fn into_register(self) -> R
         ensures { result ≡ self.register }
     {
-        let ClosedBook {
+        let Book {
             register,
             entries: _,
             tops: _,
-            index: _,
+            stage: _,
         } = self;
         register
     }

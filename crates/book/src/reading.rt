@@ -7,20 +7,20 @@ ghost use Rattle.names.specs.Lines.{is_word};
 ghost use Rattle.book.specs.Words.{word};
 ghost use Rattle.book.specs.States.{take_answer, after_take};
 ghost use Rattle.book.specs.Readings.{spelled_in, note_in, word_of, told_as, told_answer, after_told, read_answer, after_read, Reads};
-ghost use Rattle.book.specs.Books.{taking_state};
+ghost use Rattle.book.specs.Books.{held};
 
-use crate::books::TakingBook;
+use crate::books::{Book, Taking};
 use crate::readings::Reading;
 use labels::{Bare, FrameLabel, Label, RestLabel, SoundingNote, SyllableLabel, WrittenNote};
 use names::{Fault, Pitch, Reader, Refusal, Token};
 use registers::Register;
 
-impl<R: Register> TakingBook<R> {
+impl<R: Register> Book<R, Taking> {
     // Takes the words of a text in turn, up to the first fault, and tells how many they are.
     pub fn read(&mut self, reading: Reading, text: &[u8]) -> Result<u32, Fault>
-        ensures answer { result ≡ read_answer (taking_state R.pairs R.room self.old) reading text.now }
-        ensures after { taking_state R.pairs R.room self.new ≡ after_read (taking_state R.pairs R.room self.old) reading text.now }
-        ensures reads { Reads (taking_state R.pairs R.room self.old) (taking_state R.pairs R.room self.new) reading text.now result }
+        ensures answer { result ≡ read_answer (held self.old) reading text.now }
+        ensures after { held self.new ≡ after_read (held self.old) reading text.now }
+        ensures reads { Reads (held self.old) (held self.new) reading text.now result }
     {
         let before = self.entries.len();
         let mut reader = Reader::over(text)?;
@@ -41,8 +41,8 @@ impl<R: Register> TakingBook<R> {
     // Takes the word that a token tells, if it tells one.
     fn take_token(&mut self, reading: Reading, token: &Token) -> Result<Option<(u32, u32)>, Refusal>
         requires { malformed (said token.now) ≡ None }
-        ensures answer { result ≡ told_answer (taking_state R.pairs R.room self.old) (word_of reading (said token.now)) }
-        ensures after { taking_state R.pairs R.room self.new ≡ after_told (taking_state R.pairs R.room self.old) (word_of reading (said token.now)) }
+        ensures answer { result ≡ told_answer (held self.old) (word_of reading (said token.now)) }
+        ensures after { held self.new ≡ after_told (held self.old) (word_of reading (said token.now)) }
     {
         if let Token::Naming(_) = token {
             return Ok(None);
@@ -55,8 +55,8 @@ impl<R: Register> TakingBook<R> {
     fn take_word(&mut self, reading: Reading, token: &Token) -> Result<(u32, u32), Refusal>
         requires formed { malformed (said token.now) ≡ None }
         requires word { is_word (said token.now) ≡ true }
-        ensures answer { told_as result ≡ told_answer (taking_state R.pairs R.room self.old) (word_of reading (said token.now)) }
-        ensures after { taking_state R.pairs R.room self.new ≡ after_told (taking_state R.pairs R.room self.old) (word_of reading (said token.now)) }
+        ensures answer { told_as result ≡ told_answer (held self.old) (word_of reading (said token.now)) }
+        ensures after { held self.new ≡ after_told (held self.old) (word_of reading (said token.now)) }
     {
         match token {
             Token::Naming(_) => unreachable(),
@@ -72,8 +72,8 @@ impl<R: Register> TakingBook<R> {
     // Takes a syllable, which borrows its bytes from the text.
     fn take_syllable(&mut self, reading: Reading, bytes: &[u8]) -> Result<(u32, u32), Refusal>
         requires { syllabled bytes.now ≡ true }
-        ensures answer { result ≡ take_answer (taking_state R.pairs R.room self.old) (word 0 (spelled_in reading (syllable_spelling bytes.now))) }
-        ensures after { taking_state R.pairs R.room self.new ≡ after_take (taking_state R.pairs R.room self.old) (word 0 (spelled_in reading (syllable_spelling bytes.now))) }
+        ensures answer { result ≡ take_answer (held self.old) (word 0 (spelled_in reading (syllable_spelling bytes.now))) }
+        ensures after { held self.new ≡ after_take (held self.old) (word 0 (spelled_in reading (syllable_spelling bytes.now))) }
     {
         match SyllableLabel::new(bytes) {
             Some(label) => self.take_as(reading, &label, 0),
@@ -90,8 +90,8 @@ impl<R: Register> TakingBook<R> {
         length: u8,
     ) -> Result<(u32, u32), Refusal>
         requires { sung octave length ≡ true }
-        ensures answer { result ≡ take_answer (taking_state R.pairs R.room self.old) (word 0 (note_in reading pitch octave length)) }
-        ensures after { taking_state R.pairs R.room self.new ≡ after_take (taking_state R.pairs R.room self.old) (word 0 (note_in reading pitch octave length)) }
+        ensures answer { result ≡ take_answer (held self.old) (word 0 (note_in reading pitch octave length)) }
+        ensures after { held self.new ≡ after_take (held self.old) (word 0 (note_in reading pitch octave length)) }
     {
         match reading {
             Reading::Written => match WrittenNote::new(pitch, octave, length) {
@@ -109,8 +109,8 @@ impl<R: Register> TakingBook<R> {
     // Takes a rest.
     fn take_rest(&mut self, reading: Reading, length: u8) -> Result<(u32, u32), Refusal>
         requires { lasting length ≡ true }
-        ensures answer { result ≡ take_answer (taking_state R.pairs R.room self.old) (word 0 (spelled_in reading (rest_spelling length))) }
-        ensures after { taking_state R.pairs R.room self.new ≡ after_take (taking_state R.pairs R.room self.old) (word 0 (spelled_in reading (rest_spelling length))) }
+        ensures answer { result ≡ take_answer (held self.old) (word 0 (spelled_in reading (rest_spelling length))) }
+        ensures after { held self.new ≡ after_take (held self.old) (word 0 (spelled_in reading (rest_spelling length))) }
     {
         match RestLabel::new(length) {
             Some(rest) => self.take_as(reading, &rest, 0),
@@ -125,8 +125,8 @@ impl<R: Register> TakingBook<R> {
         label: &L,
         rank: u8,
     ) -> Result<(u32, u32), Refusal>
-        ensures answer { result ≡ take_answer (taking_state R.pairs R.room self.old) (word rank (spelled_in reading (L.spelling label.now))) }
-        ensures after { taking_state R.pairs R.room self.new ≡ after_take (taking_state R.pairs R.room self.old) (word rank (spelled_in reading (L.spelling label.now))) }
+        ensures answer { result ≡ take_answer (held self.old) (word rank (spelled_in reading (L.spelling label.now))) }
+        ensures after { held self.new ≡ after_take (held self.old) (word rank (spelled_in reading (L.spelling label.now))) }
     {
         match reading {
             Reading::Bare => self.take(&Bare, rank),

@@ -3,9 +3,9 @@ ghost use Rattle.std.specs.Prelude.{◌≡◌, ◌+◌, ◌-◌, ◌<◌, ◌≤
 ghost use Rattle.book.specs.Words.{word};
 ghost use Rattle.book.specs.States.{needs, start_over, refused, taken, grown, take_answer, after_take};
 ghost use Rattle.book.specs.Taken.{Takes};
-ghost use Rattle.book.specs.Books.{taking_state};
+ghost use Rattle.book.specs.Books.{held};
 
-use crate::books::{MOST_WORDS, TakingBook};
+use crate::books::{Book, MOST_WORDS, Taking};
 use crate::chains::number_word;
 use crate::entries::Entry;
 use labels::Label;
@@ -31,12 +31,12 @@ fn start_of(children: &[Entry], position: u32) -> u32
     }
 }
 
-impl<R: Register> TakingBook<R> {
+impl<R: Register> Book<R, Taking> {
     // Takes a word: its group number and its passage's start.
     pub fn take<L: Label>(&mut self, label: &L, rank: u8) -> Result<(u32, u32), Refusal>
-        ensures answer { result ≡ take_answer (taking_state R.pairs R.room self.old) (word rank (L.spelling label.now)) }
-        ensures after { taking_state R.pairs R.room self.new ≡ after_take (taking_state R.pairs R.room self.old) (word rank (L.spelling label.now)) }
-        ensures takes { Takes (taking_state R.pairs R.room self.old) (taking_state R.pairs R.room self.new) (word rank (L.spelling label.now)) result }
+        ensures answer { result ≡ take_answer (held self.old) (word rank (L.spelling label.now)) }
+        ensures after { held self.new ≡ after_take (held self.old) (word rank (L.spelling label.now)) }
+        ensures takes { Takes (held self.old) (held self.new) (word rank (L.spelling label.now)) result }
     {
         if let Some(refusal) = self.why_refused(label, rank) {
             return Err(refusal);
@@ -47,7 +47,7 @@ impl<R: Register> TakingBook<R> {
 
     // The first reason to refuse a word.
     fn why_refused<L: Label>(&self, label: &L, rank: u8) -> Option<Refusal>
-        ensures { result ≡ refused (taking_state R.pairs R.room self.now) (word rank (L.spelling label.now)) }
+        ensures { result ≡ refused (held self.now) (word rank (L.spelling label.now)) }
     {
         if rank as usize > self.tops.len() {
             return Some(Refusal::RankAboveTops);
@@ -66,8 +66,8 @@ impl<R: Register> TakingBook<R> {
         requires ranked { rank ≤ vec_len self.old.tops }
         requires few { vec_len self.old.entries < 4096 }
         requires free { length (R.pairs self.old.register) + needs (word rank (L.spelling label.now)) ≤ R.room self.old.register }
-        ensures answer { result ≡ taken (taking_state R.pairs R.room self.old) (word rank (L.spelling label.now)) }
-        ensures after { taking_state R.pairs R.room self.new ≡ grown (taking_state R.pairs R.room self.old) (word rank (L.spelling label.now)) }
+        ensures answer { result ≡ taken (held self.old) (word rank (L.spelling label.now)) }
+        ensures after { held self.new ≡ grown (held self.old) (word rank (L.spelling label.now)) }
     {
         let first = self.tops.len() - rank as usize;
         let start = start_of(&self.tops.as_slice()[first..], self.entries.len() as u32);

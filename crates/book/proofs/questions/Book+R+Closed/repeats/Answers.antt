@@ -1,0 +1,19 @@
+use Rattle.std.proofs.Common.{length, vec_items, ap, ◌∙◌, arith}
+use Rattle.std.proofs.lemmas.List.{length-map}
+use Rattle.book.specs.Books.{held}
+use Rattle.book.specs.Linking.{repeats_of}
+use Rattle.book.specs.Repeats.{first}
+use Rattle.book.proofs.Asking.{repeats_few, tells_repeats}
+use Rattle.book.proofs.questions.Book+R+Closed.repeats.Goals as goal
+
+pub count-requires : goal.count-requires
+count-requires g c =
+    let b = c.args.self.now in
+    let n = ap length (c.as_slice.ensures.value ∙ b.staged.listed) ∙ length-map (repeats_of (vec_items b.entries)) first in
+    omega (arith, n, b.entries.ok.0, b.few, repeats_few (vec_items b.entries))
+
+pub returns : goal.returns
+returns g c =
+    let b = c.args.self.now in
+    let e = c.count.ensures ∙ (ap length (c.as_slice.ensures.value ∙ b.staged.listed) ∙ length-map (repeats_of (vec_items b.entries)) first) in
+    record { value = e; tells = tells_repeats (held b) _ e }

@@ -1,0 +1,30 @@
+use Rattle.std.proofs.Common.{Ok, Err, sym, arith}
+use Rattle.book.specs.Books.{held}
+use Rattle.book.specs.Words.{word}
+use Rattle.book.proofs.Takings.{takes, take_refused, take_fine, not_refused}
+use Rattle.book.proofs.taking.Book+R+Taking.take.Goals as goal
+
+pub returns-in-Some : goal.returns-in-Some
+returns-in-Some g c =
+    let s = held c.args.self.now in
+    let w = word c.args.rank (g.L.Label.spelling c.args.label.now) in
+    let is = take_refused s w c.in-Some.refusal c.in-Some.ensures in
+    record { answer = is.0; after = is.1; takes = takes s s w (Err c.in-Some.refusal) is.0 is.1 }
+
+pub grow-entry-requires : goal.grow-entry-requires
+grow-entry-requires g c =
+    let s = c.args.self.now in
+    let fine = not_refused _ _ _ _ (sym c.in_default.ensures) in
+    record {
+      ranked = omega (arith, s.tops.ok.0, fine.0);
+      few = omega (arith, s.entries.ok.0, fine.1);
+      free = omega (arith, fine.2, (g.R.Register.sound s.register).within);
+    }
+
+pub returns : goal.returns
+returns g c =
+    let s = held c.args.self.now in
+    let t = held c.grow-entry.new.self in
+    let w = word c.args.rank (g.L.Label.spelling c.args.label.now) in
+    let is = take_fine s t w c.grow-entry.result c.in_default.ensures c.grow-entry.ensures.answer c.grow-entry.ensures.after in
+    record { answer = is.0; after = is.1; takes = takes s t w (Ok (c.grow-entry.result.group, c.grow-entry.result.start)) is.0 is.1 }
