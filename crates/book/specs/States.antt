@@ -33,6 +33,11 @@ refusal tops words free w = cond (nat_lt tops w.rank) (Some RankAboveTops) (cond
 abbrev pub refused : State → Word → Option Refusal
 refused s w = refusal (length s.tops) (length s.entries) (s.room - length s.pairs) w
 
+-- that a word may be taken, or the refusal
+abbrev pub allowed : Option Refusal → Result (Unit {0}) Refusal
+allowed None = Ok tt
+allowed (Some r) = Err r
+
 -- the top passages that the word takes as its children
 abbrev pub children : State → Word → List Entry
 children s w = drop (length s.tops - w.rank) s.tops

@@ -1,7 +1,7 @@
 // Taking words into a book.
 ghost use Rattle.std.specs.Prelude.{◌≡◌, ◌+◌, ◌-◌, ◌<◌, ◌≤◌, length, vec_len, nat_le};
 ghost use Rattle.book.specs.Words.{word};
-ghost use Rattle.book.specs.States.{needs, start_over, refused, taken, grown, take_answer, after_take};
+ghost use Rattle.book.specs.States.{needs, start_over, refused, allowed, taken, grown, take_answer, after_take};
 ghost use Rattle.book.specs.Taken.{Takes};
 ghost use Rattle.book.specs.Books.{held};
 
@@ -38,27 +38,25 @@ impl<R: Register> Book<R, Taking> {
         ensures after { held self.new ≡ after_take (held self.old) (word rank (L.spelling label.now)) }
         ensures takes { Takes (held self.old) (held self.new) (word rank (L.spelling label.now)) result }
     {
-        if let Some(refusal) = self.why_refused(label, rank) {
-            return Err(refusal);
-        }
+        self.check_word(label, rank)?;
         let entry = self.grow(label, rank);
         Ok((entry.group, entry.start))
     }
 
-    // The first reason to refuse a word.
-    fn why_refused<L: Label>(&self, label: &L, rank: u8) -> Option<Refusal>
-        ensures { result ≡ refused (held self.now) (word rank (L.spelling label.now)) }
+    // Whether a word may be taken, or the first reason to refuse it.
+    fn check_word<L: Label>(&self, label: &L, rank: u8) -> Result<(), Refusal>
+        ensures { result ≡ allowed (refused (held self.now) (word rank (L.spelling label.now))) }
     {
         if rank as usize > self.tops.len() {
-            return Some(Refusal::RankAboveTops);
+            return Err(Refusal::RankAboveTops);
         }
         if self.entries.len() >= MOST_WORDS {
-            return Some(Refusal::BookFull);
+            return Err(Refusal::BookFull);
         }
         if !has_places(&self.register, label, rank) {
-            return Some(Refusal::RegisterFull);
+            return Err(Refusal::RegisterFull);
         }
-        None
+        Ok(())
     }
 
     // Adds a word that is not refused.
