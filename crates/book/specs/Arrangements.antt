@@ -33,31 +33,35 @@ pub data Said : Type 0 where
   listed : Result Listed Refusal → List ℕ → Said  -- with the table
   not_allowed : Said
 
--- What a call answers on a book that was made over the pairs qs and took the words ws: while it takes words, and while it is closed.
--- A call that the book does not allow then is answered by that word, and does nothing.
+-- What a call answers on a book that was made over the pairs qs and took the words ws. A call that the book does not allow as it stands
+-- is answered by that word, and does nothing.
+
+-- the questions that a book answers whether it takes words or is closed
+abbrev pub question_answer : Asked → List Pair → List Word → Said
+question_answer (take w) qs ws = not_allowed
+question_answer (read r text) qs ws = not_allowed
+question_answer close qs ws = not_allowed
+question_answer reopen qs ws = not_allowed
+question_answer words qs ws = counted (word_count qs ws)
+question_answer tops qs ws = counted (top_count qs ws)
+question_answer (group p) qs ws = told (word_group p qs ws)
+question_answer (start p) qs ws = told (word_start p qs ws)
+question_answer repeats qs ws = not_allowed
+question_answer (list k table) qs ws = not_allowed
+
+-- while it takes words
 abbrev pub taking_answer : List Pair → ℕ → List Word → Asked → Said
 taking_answer qs room ws (take w) = taken (word_answer qs room ws w)
 taking_answer qs room ws (read r text) = took (reading_answer qs room ws r text)
 taking_answer qs room ws close = done
-taking_answer qs room ws reopen = not_allowed
-taking_answer qs room ws words = counted (word_count qs ws)
-taking_answer qs room ws tops = counted (top_count qs ws)
-taking_answer qs room ws (group p) = told (word_group p qs ws)
-taking_answer qs room ws (start p) = told (word_start p qs ws)
-taking_answer qs room ws repeats = not_allowed
-taking_answer qs room ws (list k table) = not_allowed
+taking_answer qs room ws c = question_answer c qs ws
 
+-- while it is closed
 abbrev pub closed_answer : List Pair → List Word → Asked → Said
-closed_answer qs ws (take w) = not_allowed
-closed_answer qs ws (read r text) = not_allowed
-closed_answer qs ws close = not_allowed
 closed_answer qs ws reopen = done
-closed_answer qs ws words = counted (word_count qs ws)
-closed_answer qs ws tops = counted (top_count qs ws)
-closed_answer qs ws (group p) = told (word_group p qs ws)
-closed_answer qs ws (start p) = told (word_start p qs ws)
 closed_answer qs ws repeats = counted (repeat_count qs ws)
 closed_answer qs ws (list k table) = listed (word_listed k (length table) qs ws) (word_table k table qs ws)
+closed_answer qs ws c = question_answer c qs ws
 
 -- whether the book takes words, before and after a call
 abbrev pub answer_to : List Pair → ℕ → List Word → Bool → Asked → Said

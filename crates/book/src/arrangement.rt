@@ -1,11 +1,13 @@
 // Arrangements of calls: performed one after another on one book.
 ghost use Rattle.std.specs.Prelude.{◌≡◌, true, false, map, MatchResult};
 ghost use Rattle.book.specs.Books.{held};
+ghost use Rattle.book.specs.Questions.{Tells};
+ghost use Rattle.book.specs.Arrangements.{question_answer};
 ghost use Rattle.book.specs.Calls.{asked, said};
 ghost use Rattle.book.specs.Performed.{standing, stand_of, Performs};
 ghost use Rattle.book.specs.Law.{Law};
 
-use crate::books::{ClosedBook, TakingBook};
+use crate::books::{Book, ClosedBook, Stage, TakingBook};
 use crate::calls::{Answer, Call};
 use crate::words::Takable;
 use registers::Register;
@@ -15,6 +17,19 @@ use std::alloc::Global;
 pub(crate) enum AnyBook<R: Register> {
     Taking(TakingBook<R>),
     Closed(ClosedBook<R>),
+}
+
+// A question that a book answers in either stage. Any other call is not allowed here.
+fn ask<R: Register, S: Stage, N: Takable>(book: &Book<R, S>, question: &Call<N>) -> Answer
+    ensures { Tells (held book.now) (said result) (question_answer (asked N.says question.now)) }
+{
+    match question {
+        Call::Words => Answer::Counted(book.words()),
+        Call::Tops => Answer::Counted(book.tops()),
+        Call::Group(position) => Answer::Told(book.group(*position)),
+        Call::Start(position) => Answer::Told(book.start(*position)),
+        _ => Answer::NotAllowed,
+    }
 }
 
 // One call on a book that takes words.
@@ -34,25 +49,10 @@ fn perform_taking<R: Register, N: Takable + Drop>(
             (AnyBook::Taking(book), Answer::Took(took))
         }
         Call::Close => (AnyBook::Closed(book.close()), Answer::Done),
-        Call::Words => {
-            let count = book.words();
-            (AnyBook::Taking(book), Answer::Counted(count))
+        question => {
+            let answer = ask(&book, &question);
+            (AnyBook::Taking(book), answer)
         }
-        Call::Tops => {
-            let count = book.tops();
-            (AnyBook::Taking(book), Answer::Counted(count))
-        }
-        Call::Group(position) => {
-            let told = book.group(position);
-            (AnyBook::Taking(book), Answer::Told(told))
-        }
-        Call::Start(position) => {
-            let told = book.start(position);
-            (AnyBook::Taking(book), Answer::Told(told))
-        }
-        Call::Reopen => (AnyBook::Taking(book), Answer::NotAllowed),
-        Call::Repeats => (AnyBook::Taking(book), Answer::NotAllowed),
-        Call::List(_, _) => (AnyBook::Taking(book), Answer::NotAllowed),
     }
 }
 
@@ -65,22 +65,6 @@ fn perform_closed<R: Register, N: Takable + Drop>(
 {
     match call {
         Call::Reopen => (AnyBook::Taking(book.reopen()), Answer::Done),
-        Call::Words => {
-            let count = book.words();
-            (AnyBook::Closed(book), Answer::Counted(count))
-        }
-        Call::Tops => {
-            let count = book.tops();
-            (AnyBook::Closed(book), Answer::Counted(count))
-        }
-        Call::Group(position) => {
-            let told = book.group(position);
-            (AnyBook::Closed(book), Answer::Told(told))
-        }
-        Call::Start(position) => {
-            let told = book.start(position);
-            (AnyBook::Closed(book), Answer::Told(told))
-        }
         Call::Repeats => {
             let count = book.repeats();
             (AnyBook::Closed(book), Answer::Counted(count))
@@ -89,9 +73,10 @@ fn perform_closed<R: Register, N: Takable + Drop>(
             let listed = book.list(k, table.as_mut_slice());
             (AnyBook::Closed(book), Answer::Listed(listed, table))
         }
-        Call::Take(_) => (AnyBook::Closed(book), Answer::NotAllowed),
-        Call::Read(_, _) => (AnyBook::Closed(book), Answer::NotAllowed),
-        Call::Close => (AnyBook::Closed(book), Answer::NotAllowed),
+        question => {
+            let answer = ask(&book, &question);
+            (AnyBook::Closed(book), answer)
+        }
     }
 }
 
