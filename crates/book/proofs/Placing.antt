@@ -6,7 +6,6 @@ use Rattle.book.specs.declared.entries.Entry.{Entry}
 use Rattle.book.specs.Entries.{entry}
 use Rattle.book.specs.Kept.{LowGroups, LowStarts, LowTops}
 use Rattle.book.specs.States.{start_over}
-use Rattle.book.specs.Linking.{later_of, Numbered, Started, Linked}
 
 each_push : (P : ℕ → Entry → Type 0) (es more : List Entry) (e : Entry) → ((p : ℕ) → p < length es → P p (get_or es p (entry 0 0))) → P (length es) e → more ≡ es ++ e ∷ [] → (p : ℕ) → p < length more → P p (get_or more p (entry 0 0))
 each_push P es more e old new is p h =
@@ -40,13 +39,3 @@ start_within ts n k old =
     (λ (b : k < length ts). subst (λ (l : List Entry). start_over l n ≤ n) (sym (drop_more ts k (entry 0 0) b)) (old k b))
     (λ (b : length ts ≤ k). subst (λ (l : List Entry). start_over l n ≤ n) (sym (drop_all k ts b)) (omega arith))
     (cases_lt k (length ts))
-
--- as linking asks for it
-pub numbered_in : (es read : List Entry) (n : ℕ) → read ≡ es → LowGroups es → 32768 < n → Numbered read n
-numbered_in es read n e low wide = rw e (record { each = λ p h. let l = low p h in omega (arith, l, wide) })
-
-pub started_in : (es read : List Entry) → read ≡ es → LowStarts es → Started read
-started_in es read e low = rw e (record { each = low })
-
-pub linked_in : (es read : List Entry) (later links : List ℕ) → read ≡ es → links ≡ later → length later ≡ length es → ((p : ℕ) → p < length es → get_or later p 0 ≡ later_of es p) → Linked read links
-linked_in es read later links e f long each = rw (e, f) (record { long = long; each = each })

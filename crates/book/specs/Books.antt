@@ -6,4 +6,4 @@ use Rattle.book.specs.declared.books.Book.{Book}
 use Rattle.book.specs.States.{State, state}
 
 abbrev pub held : {R S : Type 0} {g : Ghosts R} {h : StageGhosts S} → Book R S g h → State
-held {R} {S} {g} {h} b = state (g.pairs b.register) (g.room b.register) (vec_items b.entries) (vec_items b.tops)
+held {R} {S} {g} {h} b = state (g.pairs b.register) (g.room b.register) b.entries (vec_items b.tops)

@@ -1,27 +1,13 @@
-// The two states of a book: one that takes words, and one that is closed.
-ghost use Rattle.std.specs.Prelude.{◌≡◌, ◌≤◌, List, vec_len, vec_capacity};
+// A book in its two stages: one that takes words, and one that is closed.
+ghost use Rattle.std.specs.Prelude.{◌≤◌, List, length, vec_len, vec_capacity};
 ghost use Rattle.std.proofs.Props.{props};
 ghost use Rattle.book.specs.declared.entries.Entry.{Entry};
-ghost use Rattle.book.specs.Kept.{LowGroups, LowStarts, LowTops};
+ghost use Rattle.book.specs.Kept.{LowTops};
 ghost use Rattle.book.specs.Linking.{Indexed};
 
-use crate::entries::Entry;
+use crate::entries::{Entries, Entry};
+use crate::linking::Index;
 use registers::Register;
-
-// The most words that a book holds.
-pub const MOST_WORDS: usize = 4096;
-
-// The memory in which a closed book finds its repeats: a place for each group number that a register can give,
-// the next word of the same group for each word, and the first end of each repeat.
-#[derive(Drop)]
-pub(crate) struct Index {
-    pub(crate) latest: Vec<u32>,
-    pub(crate) later: Vec<u32>,
-    pub(crate) firsts: Vec<u32>,
-    ghost wide: { vec_len latest ≡ 32769 },
-    ghost linking: { 4096 ≤ vec_capacity later },
-    ghost listing: { 4096 ≤ vec_capacity firsts },
-}
 
 // What a book is doing: taking words, or closed.
 pub trait Stage: Drop {
@@ -58,17 +44,14 @@ impl Stage for Closed {
 // A book of words over a register. Its memory is reserved when it is made, so that no later call on it can fail for want of memory.
 pub struct Book<R: Register, S: Stage> {
     pub(crate) register: R,
-    pub(crate) entries: Vec<Entry>,
+    pub(crate) entries: Entries,
     pub(crate) tops: Vec<Entry>,
     pub(crate) stage: S,
-    ghost few: { vec_len entries ≤ 4096 },
-    ghost fewer: { vec_len tops ≤ vec_len entries },
-    ghost reserved: { 4096 ≤ vec_capacity entries },
+    ghost few: { length entries ≤ 4096 },
+    ghost fewer: { vec_len tops ≤ length entries },
     ghost stacked: { 4096 ≤ vec_capacity tops },
-    ghost numbered: { LowGroups entries.items },
-    ghost started: { LowStarts entries.items },
-    ghost within: { LowTops tops.items (vec_len entries) },
-    ghost staged: { S.fits stage entries.items } by { S.is_fact stage entries.items },
+    ghost within: { LowTops tops.items (length entries) },
+    ghost staged: { S.fits stage entries } by { S.is_fact stage entries },
 }
 
 // A book that takes words.

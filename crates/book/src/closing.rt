@@ -5,23 +5,11 @@ ghost use Rattle.book.specs.Taken.{Holds};
 ghost use Rattle.book.specs.Books.{held};
 ghost use Rattle.book.specs.PassageLaws.{PassageLaws};
 
-use crate::books::{Book, Closed, ClosedBook, Index, MOST_WORDS, Taking, TakingBook};
-use crate::linking::link_repeats;
-use registers::{MOST_PAIRS, Register};
-use std::alloc::{AllocError, Global};
-
-impl Index {
-    fn new(heap: Global) -> Result<Index, AllocError> {
-        let latest = vec![in heap; 0; MOST_PAIRS + 1]?;
-        let later = Vec::with_capacity(heap, MOST_WORDS)?;
-        let firsts = Vec::with_capacity(heap, MOST_WORDS)?;
-        Ok(Index {
-            latest,
-            later,
-            firsts,
-        })
-    }
-}
+use crate::books::{Book, Closed, ClosedBook, Taking, TakingBook};
+use crate::entries::{Entries, MOST_WORDS};
+use crate::linking::Index;
+use registers::Register;
+use std::alloc::Global;
 
 impl<R: Register> Book<R, Taking> {
     // A book without words over the register, which is handed back where memory is wanting.
@@ -30,7 +18,7 @@ impl<R: Register> Book<R, Taking> {
         ensures laws { PassageLaws }
         ensures holds { IfOk result (λ b. Holds (R.pairs register) [] (held b)) }
     {
-        let Ok(entries) = Vec::with_capacity(heap, MOST_WORDS) else {
+        let Ok(entries) = Entries::new(heap) else {
             return Err(register);
         };
         let Ok(tops) = Vec::with_capacity(heap, MOST_WORDS) else {
@@ -57,29 +45,13 @@ impl<R: Register> Book<R, Taking> {
             tops,
             stage,
         } = self;
-        let Taking { index } = stage;
-        let Index {
-            mut latest,
-            mut later,
-            mut firsts,
-        } = index;
-        link_repeats(
-            entries.as_slice(),
-            latest.as_mut_slice(),
-            &mut later,
-            &mut firsts,
-        );
+        let Taking { mut index } = stage;
+        index.link(&entries);
         Book {
             register,
             entries,
             tops,
-            stage: Closed {
-                index: Index {
-                    latest,
-                    later,
-                    firsts,
-                },
-            },
+            stage: Closed { index },
         }
     }
 }

@@ -1,14 +1,12 @@
 // Questions to a book, and the listing of a closed one.
-ghost use Rattle.std.specs.Prelude.{◌≡◌, ◌≤◌, length, slice_index_or};
-ghost use Rattle.book.specs.Entries.{entry};
+ghost use Rattle.std.specs.Prelude.{◌≡◌, ◌≤◌, length};
 ghost use Rattle.book.specs.States.{State};
 ghost use Rattle.book.specs.Linking.{repeats_of, listed_answer, listed_table};
-ghost use Rattle.book.specs.Questions.{at_position, group_answer, start_answer, word_count, top_count, word_group, word_start, repeat_count, word_listed, word_table, Tells};
+ghost use Rattle.book.specs.Questions.{group_answer, start_answer, word_count, top_count, word_group, word_start, repeat_count, word_listed, word_table, Tells};
 ghost use Rattle.book.specs.Books.{held};
 
 use crate::books::{Book, Closed, Stage};
-use crate::entries::Entry;
-use crate::linking::{Listed, list_repeat};
+use crate::linking::Listed;
 use names::Refusal;
 use registers::Register;
 
@@ -18,16 +16,6 @@ fn count<T>(items: &[T]) -> u32
     ensures { result ≡ length items.now }
 {
     items.len() as u32
-}
-
-// The entry of a position, if that is below the words.
-fn entry_at(entries: &[Entry], position: u32) -> Result<Entry, Refusal>
-    ensures { result ≡ at_position (length entries.now) position (slice_index_or entries.now position (entry 0 0)) }
-{
-    entries
-        .get(position as usize)
-        .copied()
-        .ok_or(Refusal::NoSuchPosition)
 }
 
 // In either stage.
@@ -55,7 +43,7 @@ impl<R: Register, S: Stage> Book<R, S> {
         ensures value { result ≡ group_answer (held self.now) position }
         ensures tells { Tells (held self.now) result (word_group position) }
     {
-        entry_at(self.entries.as_slice(), position).map(|entry| entry.group)
+        self.entries.at(position).map(|entry| entry.group)
     }
 
     // The position of that passage's first leaf.
@@ -63,7 +51,7 @@ impl<R: Register, S: Stage> Book<R, S> {
         ensures value { result ≡ start_answer (held self.now) position }
         ensures tells { Tells (held self.now) result (word_start position) }
     {
-        entry_at(self.entries.as_slice(), position).map(|entry| entry.start)
+        self.entries.at(position).map(|entry| entry.start)
     }
 }
 
@@ -83,12 +71,6 @@ impl<R: Register> Book<R, Closed> {
         ensures lists { Tells (held self.now) result (word_listed k (length table.old)) }
         ensures fills { Tells (held self.now) table.new (word_table k table.old) }
     {
-        list_repeat(
-            self.entries.as_slice(),
-            self.stage.index.later.as_slice(),
-            self.stage.index.firsts.as_slice(),
-            k,
-            table,
-        )
+        self.stage.index.list(&self.entries, k, table)
     }
 }

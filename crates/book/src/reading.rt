@@ -21,12 +21,12 @@ impl<R: Register> Book<R, Taking> {
         ensures after { held self.new ≡ after_read (held self.old) reading text.now }
         ensures reads { Reads (held self.old) (held self.new) reading text.now result }
     {
-        let before = self.entries.len();
+        let before = self.words();
         let mut reader = Reader::over(text)?;
         while let Some(placed) = reader.next_token()? {
             self.take_placed(reading, &placed)?;
         }
-        Ok((self.entries.len() - before) as u32)
+        Ok(self.words() - before)
     }
 
     // Takes the word that a token tells, if it tells one, or says at which byte it is refused.

@@ -5,7 +5,7 @@ ghost use Rattle.book.specs.States.{needs, start_over, refused, allowed, taken, 
 ghost use Rattle.book.specs.Taken.{Takes};
 ghost use Rattle.book.specs.Books.{held};
 
-use crate::books::{Book, MOST_WORDS, Taking};
+use crate::books::{Book, Taking};
 use crate::chains::number_word;
 use crate::entries::Entry;
 use labels::Label;
@@ -50,7 +50,7 @@ impl<R: Register> Book<R, Taking> {
         if rank as usize > self.tops.len() {
             return Err(Refusal::RankAboveTops);
         }
-        if self.entries.len() >= MOST_WORDS {
+        if self.entries.is_full() {
             return Err(Refusal::BookFull);
         }
         if !has_places(&self.register, label, rank) {
@@ -62,13 +62,14 @@ impl<R: Register> Book<R, Taking> {
     // Adds a word that is not refused.
     fn grow<L: Label>(&mut self, label: &L, rank: u8) -> Entry
         requires ranked { rank ≤ vec_len self.old.tops }
-        requires few { vec_len self.old.entries < 4096 }
+        requires few { length self.old.entries < 4096 }
         requires free { length (R.pairs self.old.register) + needs (word rank (L.spelling label.now)) ≤ R.room self.old.register }
         ensures answer { result ≡ taken (held self.old) (word rank (L.spelling label.now)) }
         ensures after { held self.new ≡ grown (held self.old) (word rank (L.spelling label.now)) }
     {
+        let position = self.words();
         let first = self.tops.len() - rank as usize;
-        let start = start_of(&self.tops.as_slice()[first..], self.entries.len() as u32);
+        let start = start_of(&self.tops.as_slice()[first..], position);
         let group = number_word(
             &mut self.register,
             label,
@@ -78,7 +79,7 @@ impl<R: Register> Book<R, Taking> {
         let entry = Entry { group, start };
         self.tops.truncate(first);
         self.tops.push_reserved(entry);
-        self.entries.push_reserved(entry);
+        self.entries.push(entry);
         entry
     }
 }

@@ -70,7 +70,7 @@ overflow_sub-result g c =
     let z = first_none x.tokens x.fault (ap (λ o. told_next (Ok o)) (sym c.in_default.is) ∙ c.in_ok-placed.ensures.value) in
     let end = going_end _ _ _ _ x c.loop-placed.invariant z.0 None z.1 in
     let n = read_counted s u c.args.reading c.args.text.now _ whole end.1 end.0 in
-    omega (arith, n, c.args.self.now.entries.ok.0, c.loop-placed.self.entries.ok.0)
+    omega (arith, n, c.words-before.ensures.value, c.words.ensures.value)
 
 pub returns : goal.returns
 returns g c =
@@ -81,7 +81,7 @@ returns g c =
     let z = first_none x.tokens x.fault (ap (λ o. told_next (Ok o)) (sym c.in_default.is) ∙ c.in_ok-placed.ensures.value) in
     let end = going_end _ _ _ _ x c.loop-placed.invariant z.0 None z.1 in
     let n = read_counted s u c.args.reading c.args.text.now _ whole end.1 end.0 in
-    let took : c.len.result - c.len-before.result ≡ length (text_words c.args.reading c.args.text.now) = omega (arith, n, c.args.self.now.entries.ok.0, c.loop-placed.self.entries.ok.0) in
+    let took : c.words.result - c.words-before.result ≡ length (text_words c.args.reading c.args.text.now) = omega (arith, n, c.words-before.ensures.value, c.words.ensures.value) in
     let a = ap (λ k. Ok k) took ∙ read_ended s u c.args.reading c.args.text.now _ whole end.1 None end.0 in
     let b = read_after s u c.args.reading c.args.text.now _ whole end.1 in
     record { answer = a; after = b; reads = reads s u c.args.reading c.args.text.now _ a b }

@@ -19,7 +19,7 @@ grow-entry-requires g c =
     let fine = not_refused _ _ _ _ (fine_as_said _ c.in_ok-check_word.ensures) in
     record {
       ranked = omega (arith, s.tops.ok.0, fine.0);
-      few = omega (arith, s.entries.ok.0, fine.1);
+      few = fine.1;
       free = omega (arith, fine.2, (g.R.Register.sound s.register).within);
     }
 
