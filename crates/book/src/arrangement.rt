@@ -114,10 +114,7 @@ pub fn perform_all<R: Register, N: Takable + Copy + Drop>(
     let Ok(mut answers) = Vec::with_capacity(heap, calls.len()) else {
         return Err(register);
     };
-    let mut book = match TakingBook::new(heap, register) {
-        Ok(taking) => AnyBook::Taking(taking),
-        Err(register) => return Err(register),
-    };
+    let mut book = AnyBook::Taking(TakingBook::new(heap, register)?);
     for call in calls {
         let (next, answer) = perform(book, call);
         book = next;

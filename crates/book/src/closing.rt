@@ -1,15 +1,27 @@
 // Making a book, closing it and opening it again.
-ghost use Rattle.std.specs.Prelude.{◌≡◌, [], IfOk, MatchResult};
+ghost use Rattle.std.specs.Prelude.{◌≡◌, ◌≤◌, [], IfOk, MatchResult, vec_capacity};
 ghost use Rattle.book.specs.States.{fresh};
 ghost use Rattle.book.specs.Taken.{Holds};
 ghost use Rattle.book.specs.Books.{held};
 ghost use Rattle.book.specs.PassageLaws.{PassageLaws};
 
 use crate::books::{Book, Closed, ClosedBook, Taking, TakingBook};
-use crate::entries::{Entries, MOST_WORDS};
+use crate::entries::{Entries, Entry, MOST_WORDS};
 use crate::linking::Index;
 use registers::Register;
-use std::alloc::Global;
+use std::alloc::{AllocError, Global};
+
+// The memory of a book: for its words, its top passages, and their repeats.
+fn reserve(heap: Global) -> Result<(Entries, Vec<Entry>, Index), AllocError>
+    ensures words { IfOk result (λ m. m.0 ≡ []) }
+    ensures tops { IfOk result (λ m. m.1.items ≡ []) }
+    ensures room { IfOk result (λ m. 4096 ≤ vec_capacity m.1) }
+{
+    let entries = Entries::new(heap)?;
+    let tops = Vec::with_capacity(heap, MOST_WORDS)?;
+    let index = Index::new(heap)?;
+    Ok((entries, tops, index))
+}
 
 impl<R: Register> Book<R, Taking> {
     // A book without words over the register, which is handed back where memory is wanting.
@@ -18,13 +30,7 @@ impl<R: Register> Book<R, Taking> {
         ensures laws { PassageLaws }
         ensures holds { IfOk result (λ b. Holds (R.pairs register) [] (held b)) }
     {
-        let Ok(entries) = Entries::new(heap) else {
-            return Err(register);
-        };
-        let Ok(tops) = Vec::with_capacity(heap, MOST_WORDS) else {
-            return Err(register);
-        };
-        let Ok(index) = Index::new(heap) else {
+        let Ok((entries, tops, index)) = reserve(heap) else {
             return Err(register);
         };
         Ok(Book {

@@ -85,20 +85,20 @@ impl Index {
         ensures linked { Linked entries.now self.new.later.items }
     {
         self.firsts.clear();
-        for p in 0..entries.as_slice().len() {
-            if self.opens_repeat(entries, p) {
+        for (p, entry) in entries.as_slice().iter().enumerate() {
+            if self.opens_repeat(p, entry.group) {
                 self.firsts.push_reserved(p as u32);
             }
         }
     }
 
     // Whether the position is the first of its group, with another after it.
-    fn opens_repeat(&self, entries: &Entries, p: usize) -> bool
-        requires within { (p < length entries.now) × (p < vec_len self.now.later) }
-        ensures { result ≡ (slice_index self.now.latest.items (number_at entries.now p) == p && nat_lt 0 (slice_index self.now.later.items p)) }
+    fn opens_repeat(&self, p: usize, group: u32) -> bool
+        requires within { p < vec_len self.now.later }
+        requires low { group ≤ 32768 }
+        ensures { result ≡ (slice_index self.now.latest.items group == p && nat_lt 0 (slice_index self.now.later.items p)) }
     {
-        let group = entries.as_slice()[p].group as usize;
-        self.latest[group] as usize == p && self.later[p] > 0
+        self.latest[group as usize] as usize == p && self.later[p] > 0
     }
 }
 

@@ -4,7 +4,7 @@ ghost use Rattle.names.specs.Tokens.{malformed, syllabled, sung, lasting};
 ghost use Rattle.labels.specs.Spellings.{rest_spelling, syllable_spelling};
 ghost use Rattle.names.specs.Heard.{said};
 ghost use Rattle.book.specs.Words.{word};
-ghost use Rattle.book.specs.States.{take_answer, after_take};
+ghost use Rattle.book.specs.States.{Took};
 ghost use Rattle.book.specs.Readings.{spelled_in, note_in, word_of, told_answer, faulted, after_told, read_answer, after_read, Reads};
 ghost use Rattle.book.specs.Books.{held};
 
@@ -64,8 +64,7 @@ impl<R: Register> Book<R, Taking> {
     // Takes a syllable, which borrows its bytes from the text.
     fn take_syllable(&mut self, reading: Reading, bytes: &[u8]) -> Result<(u32, u32), Refusal>
         requires { syllabled bytes.now ≡ true }
-        ensures answer { result ≡ take_answer (held self.old) (word 0 (spelled_in reading (syllable_spelling bytes.now))) }
-        ensures after { held self.new ≡ after_take (held self.old) (word 0 (spelled_in reading (syllable_spelling bytes.now))) }
+        ensures { Took (held self.old) (held self.new) (word 0 (spelled_in reading (syllable_spelling bytes.now))) result }
     {
         self.take_as(reading, &SyllableLabel::new(bytes).unwrap(), 0)
     }
@@ -73,8 +72,7 @@ impl<R: Register> Book<R, Taking> {
     // Takes a note as it is written, as it sounds, or bare.
     fn take_note(&mut self, reading: Reading, note: &Note) -> Result<(u32, u32), Refusal>
         requires { sung note.now.octave note.now.length ≡ true }
-        ensures answer { result ≡ take_answer (held self.old) (word 0 (note_in reading note.now.pitch note.now.octave note.now.length)) }
-        ensures after { held self.new ≡ after_take (held self.old) (word 0 (note_in reading note.now.pitch note.now.octave note.now.length)) }
+        ensures { Took (held self.old) (held self.new) (word 0 (note_in reading note.now.pitch note.now.octave note.now.length)) result }
     {
         let Note {
             pitch,
@@ -92,8 +90,7 @@ impl<R: Register> Book<R, Taking> {
     // Takes a rest.
     fn take_rest(&mut self, reading: Reading, length: u8) -> Result<(u32, u32), Refusal>
         requires { lasting length ≡ true }
-        ensures answer { result ≡ take_answer (held self.old) (word 0 (spelled_in reading (rest_spelling length))) }
-        ensures after { held self.new ≡ after_take (held self.old) (word 0 (spelled_in reading (rest_spelling length))) }
+        ensures { Took (held self.old) (held self.new) (word 0 (spelled_in reading (rest_spelling length))) result }
     {
         self.take_as(reading, &RestLabel::new(length).unwrap(), 0)
     }
@@ -105,8 +102,7 @@ impl<R: Register> Book<R, Taking> {
         label: &L,
         rank: u8,
     ) -> Result<(u32, u32), Refusal>
-        ensures answer { result ≡ take_answer (held self.old) (word rank (spelled_in reading (L.spelling label.now))) }
-        ensures after { held self.new ≡ after_take (held self.old) (word rank (spelled_in reading (L.spelling label.now))) }
+        ensures { Took (held self.old) (held self.new) (word rank (spelled_in reading (L.spelling label.now))) result }
     {
         match reading {
             Reading::Bare => self.take(&Bare, rank),

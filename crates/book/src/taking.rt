@@ -69,13 +69,9 @@ impl<R: Register> Book<R, Taking> {
     {
         let position = self.words();
         let first = self.tops.len() - rank as usize;
-        let start = start_of(&self.tops.as_slice()[first..], position);
-        let group = number_word(
-            &mut self.register,
-            label,
-            rank,
-            &self.tops.as_slice()[first..],
-        );
+        let children = &self.tops.as_slice()[first..];
+        let start = start_of(children, position);
+        let group = number_word(&mut self.register, label, rank, children);
         let entry = Entry { group, start };
         self.tops.truncate(first);
         self.tops.push_reserved(entry);

@@ -14,8 +14,10 @@ loop-p-preserved c =
     let es = c.args.entries.now in
     let p = c.loop-p.p in
     let i = c.loop-p.invariant in
-    let l : p < length es = omega (arith, c.loop-p-test.true, ap length c.as_slice-p-end.ensures.value) in
-    let read : get_or (vec_items c.loop-p.self.latest) (number_at es p) 0 ≡ first (ends_with es p) = ap (λ t. get_or t (number_at es p) 0) i.1 ∙ c.requires.opened.each p l in
+    let l : p < length es = omega (arith, c.loop-p-test.true, ap length c.as_slice-entry-items.ensures.value) in
+    let words = c.as_slice-entry-items.ensures.value in
+    let read : get_or (vec_items c.loop-p.self.latest) (number_at c.as_slice-entry-items.result.now p) 0 ≡ first (ends_with es p) =
+    ap (λ x. get_or (vec_items c.loop-p.self.latest) (number_at x p) 0) words ∙ (ap (λ t. get_or t (number_at es p) 0) i.1 ∙ c.requires.opened.each p l) in
     let link : get_or (vec_items c.loop-p.self.later) p 0 ≡ later_of es p = ap (λ t. get_or t p 0) i.2 ∙ c.requires.linked.each p l in
     let fs = vec_items c.loop-p.self.firsts in
     elim c.if-opens_repeat.branch [
@@ -34,18 +36,21 @@ loop-p-preserved c =
 pub push_reserved-requires : goal.push_reserved-requires
 push_reserved-requires c =
     let i = c.loop-p.invariant in
-    let over = ap length c.as_slice-p-end.ensures.value in
-    omega (arith, i.0.low, c.loop-p-test.true, over, c.as_slice-p-end.ensures.kept.few, c.loop-p.self.listing, c.loop-p.self.firsts.ok.0)
+    let over = ap length c.as_slice-entry-items.ensures.value in
+    omega (arith, i.0.low, c.loop-p-test.true, over, c.as_slice-entry-items.ensures.kept.few, c.loop-p.self.listing, c.loop-p.self.firsts.ok.0)
 
 pub opens_repeat-requires : goal.opens_repeat-requires
 opens_repeat-requires c =
-    let l : c.loop-p.p < length c.args.entries.now = omega (arith, c.loop-p-test.true, ap length c.as_slice-p-end.ensures.value) in
-    record { within = (l, omega (arith, l, ap length c.loop-p.invariant.2, c.requires.linked.long, c.loop-p.self.later.ok.0)) }
+    let l : c.loop-p.p < length c.args.entries.now = omega (arith, c.loop-p-test.true, ap length c.as_slice-entry-items.ensures.value) in
+    record {
+      within = omega (arith, l, ap length c.loop-p.invariant.2, c.requires.linked.long, c.loop-p.self.later.ok.0);
+      low = rw c.as_slice-entry-items.ensures.value (c.as_slice-entry-items.ensures.kept.numbered c.loop-p.p l);
+    }
 
 pub returns : goal.returns
 returns c =
     let i = c.loop-p.invariant in
-    let over = ap length c.as_slice-p-end.ensures.value in
+    let over = ap length c.as_slice-entry-items.ensures.value in
     record {
       firsts = gathered_all c.args.entries.now c.loop-p.p (vec_items c.loop-p.self.firsts) (omega (arith, over, c.loop-p-test.false)) i.0;
       linked = rw i.2 c.requires.linked;

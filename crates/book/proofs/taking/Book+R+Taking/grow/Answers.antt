@@ -49,6 +49,6 @@ returns g c =
     let at : c.len.result - c.args.rank ≡ length (vec_items s.tops) - c.args.rank = omega (arith, s.tops.ok.0) in
     let number = c.number_word-group.ensures in
     record {
-      answer = grown_answer _ _ _ _ _ _ _ _ _ _ _ w _ _ _ _ at c.as_slice.ensures.value c.as_slice-2.ensures.value c.words-position.ensures.value c.start_of-start.ensures number.enters number.same c.truncate.ensures.items c.push_reserved.ensures.items c.push.ensures;
-      after = grown_after _ _ _ _ _ _ _ _ _ _ _ w _ _ _ _ at c.as_slice.ensures.value c.as_slice-2.ensures.value c.words-position.ensures.value c.start_of-start.ensures number.enters number.same c.truncate.ensures.items c.push_reserved.ensures.items c.push.ensures;
+      answer = grown_answer _ _ _ _ _ _ _ _ _ _ _ w _ _ _ _ at c.as_slice.ensures.value c.as_slice.ensures.value c.words-position.ensures.value c.start_of-start.ensures number.enters number.same c.truncate.ensures.items c.push_reserved.ensures.items c.push.ensures;
+      after = grown_after _ _ _ _ _ _ _ _ _ _ _ w _ _ _ _ at c.as_slice.ensures.value c.as_slice.ensures.value c.words-position.ensures.value c.start_of-start.ensures number.enters number.same c.truncate.ensures.items c.push_reserved.ensures.items c.push.ensures;
     }
