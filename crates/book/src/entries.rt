@@ -21,7 +21,7 @@ pub struct Entry {
 // The words in their order. The memory for all that a book holds is reserved, so that no later call can fail for want of it.
 #[derive(Drop)]
 pub struct Entries {
-    words: Vec<Entry>,
+    pub(crate) words: Vec<Entry>,
 }
 
 impl Model for Entries {

@@ -1,5 +1,5 @@
 // Each word is linked to the next word of its group when a book is closed, and a repeat is listed along the links.
-ghost use Rattle.std.specs.Prelude.{◌≡◌, ◌+◌, ◌-◌, ◌<◌, ◌≤◌, ◌&&◌, ltb, ◌++◌, map, length, drop, if◌then◌else◌, Ok, Err, vec_len, vec_capacity, ◌==◌, nat_le, nat_lt, slice_index, slice_set};
+ghost use Rattle.std.specs.Prelude.{◌≡◌, ◌+◌, ◌-◌, ◌<◌, ◌≤◌, ◌&&◌, ltb, ◌++◌, map, length, drop, if◌then◌else◌, Ok, Err, IfOk, vec_len, vec_capacity, ◌==◌, nat_le, nat_lt, slice_index, slice_set};
 ghost use Rattle.book.specs.Repeats.{first};
 ghost use Rattle.book.specs.Linking.{number_at, repeats_of, if_later, Linked, Opened, Indexed, along, OpensGroup, listing_from, listed_answer, listed_table};
 ghost use Rattle.book.specs.Ends.{left};
@@ -31,10 +31,17 @@ pub(crate) struct Index {
     ghost listing: { 4096 ≤ vec_capacity firsts },
 }
 
+// A place for each group number that a register can give, and for 0.
+fn group_places(heap: Global) -> Result<Vec<u32>, AllocError>
+    ensures { IfOk result (λ places. vec_len places ≡ 32769) }
+{
+    Ok(vec![in heap; 0; MOST_PAIRS + 1]?)
+}
+
 // Closing.
 impl Index {
     pub(crate) fn new(heap: Global) -> Result<Index, AllocError> {
-        let latest = vec![in heap; 0; MOST_PAIRS + 1]?;
+        let latest = group_places(heap)?;
         let later = Vec::with_capacity(heap, MOST_WORDS)?;
         let firsts = Vec::with_capacity(heap, MOST_WORDS)?;
         Ok(Index {

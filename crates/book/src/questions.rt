@@ -39,19 +39,21 @@ impl<R: Register, S: Stage> Book<R, S> {
     }
 
     // The group number of the passage that ends at the position.
+    #[tactic(auto, using(crate::proofs::Asking::tells_group))]
     pub fn group(&self, position: u32) -> Result<u32, Refusal>
         ensures value { result ≡ group_answer (held self.now) position }
         ensures tells { Tells (held self.now) result (word_group position) }
     {
-        self.entries.at(position).map(|entry| entry.group)
+        Ok(self.entries.at(position)?.group)
     }
 
     // The position of that passage's first leaf.
+    #[tactic(auto, using(crate::proofs::Asking::tells_start))]
     pub fn start(&self, position: u32) -> Result<u32, Refusal>
         ensures value { result ≡ start_answer (held self.now) position }
         ensures tells { Tells (held self.now) result (word_start position) }
     {
-        self.entries.at(position).map(|entry| entry.start)
+        Ok(self.entries.at(position)?.start)
     }
 }
 
