@@ -12,13 +12,19 @@ use labels::Label;
 use names::Refusal;
 use registers::Register;
 
+// How many places a word asks for, as many as it has items.
+fn places_for(spelled: u16, rank: u8) -> u32
+    ensures { result ≡ 2 + spelled + rank }
+{
+    2 + u32::from(spelled) + u32::from(rank)
+}
+
 // Whether the register has a place for each item of a word.
 fn has_places<R: Register, L: Label>(register: &R, label: &L, rank: u8) -> bool
     ensures { result ≡ nat_le (needs (word rank (L.spelling label.now))) (R.room register.now - length (R.pairs register.now)) }
 {
     let free = register.capacity() - register.count();
-    let most = 2 + L::longest_spelling() as u32 + rank as u32;
-    most <= free || 2 + label.spelled_len() as u32 + rank as u32 <= free
+    places_for(L::longest_spelling(), rank) <= free || places_for(label.spelled_len(), rank) <= free
 }
 
 // Where a passage over these children starts, if its word stands at the position.

@@ -39,6 +39,7 @@ impl<L: Label> Takable for Node<L> {
 }
 
 // A word of one kind or of another, so that one arrangement of calls can have words of any kinds.
+// Callers name the variants `First` and `Second`; the kit's `either` has others, and methods that no word needs.
 #[derive(Clone, Copy, Drop)]
 pub enum Either<A, B> {
     First(A),
