@@ -59,6 +59,7 @@ impl<R: Register, S: Stage> Book<R, S> {
 
 impl<R: Register> Book<R, Closed> {
     // How many repeats there are.
+    #[tactic(auto, using(crate::proofs::Asking::tells_repeats, crate::proofs::Asking::count_repeats))]
     pub fn repeats(&self) -> u32
         ensures value { result ≡ length (repeats_of (held self.now).entries) }
         ensures tells { Tells (held self.now) result repeat_count }
@@ -67,6 +68,7 @@ impl<R: Register> Book<R, Closed> {
     }
 
     // Lists repeat k: its group number, its size and the count of its ends, all of which the table then begins with, rising.
+    #[tactic(auto, using(crate::proofs::Asking::tells_listed, crate::proofs::Asking::tells_table))]
     pub fn list(&self, k: u32, table: &mut [u32]) -> Result<Listed, Refusal>
         ensures answer { result ≡ listed_answer (held self.now).entries k (length table.old) }
         ensures table { table.new ≡ listed_table (held self.now).entries k table.old }

@@ -10,14 +10,6 @@ loop-place-init g c =
     let k = g.L.Label.spells c.args.label.now in
     along_none _ _ _ _ (omega (arith, c.requires, e.same, l, k.some, length-drop 1 (g.L.Label.spelling c.args.label.now)))
 
-pub enter-number-requires : goal.enter-number-requires
-enter-number-requires g c = let k = g.L.Label.spells c.args.label.now in omega (arith, c.requires, k.some)
-
-pub enter-number-requires-in-loop-place : goal.enter-number-requires-in-loop-place
-enter-number-requires-in-loop-place g c =
-    let i = c.loop-place.invariant in
-    omega (arith, i.fits, i.same, c.loop-place-test.true, c.loop-place.auto.place, length-drop 1 (g.L.Label.spelling c.args.label.now))
-
 pub loop-place-preserved : goal.loop-place-preserved
 loop-place-preserved g c =
     let s = c.enter-number-in-loop-place.ensures in
