@@ -1,5 +1,5 @@
 -- The law of arrangements. Assumes nothing.
-use Rattle.std.proofs.Common.{◌≡◌, ℕ, suc, ◌<◌, ◌≤◌, Bool, true, false, cond, ◌&&◌, ltb, leb, ◌⊎◌, List, [], ◌∷◌, ◌++◌, length, drop, Some, None, Ok, Err, Option, sym, refl, ap, ◌∙◌, subst, inl, inr, ⊎_elim, arith}
+use Rattle.std.proofs.Common.{◌≡◌, ℕ, suc, ◌<◌, ◌≤◌, Bool, true, false, cond, ◌&&◌, ltb, leb, ◌⊎◌, List, [], ◌∷◌, ◌++◌, length, drop, Some, None, Ok, Err, Option, sym, refl, ap, ◌∙◌, inl, inr, ⊎_elim, arith}
 use Rattle.std.proofs.lemmas.Bool.{ltb-true, ltb-false, leb-true, leb-false}
 use Rattle.std.proofs.lemmas.List.{append-nil, append_assoc, length-append, length_push, take-append-le, take_at}
 use Rattle.std.proofs.ByRecursion.{All-get_or}
@@ -217,8 +217,3 @@ going_end qs room s₀ s cs rest given rs new going over now =
       lawful qs room cs given g.sofar rs (sym (append-nil given) ∙ g.replies) (sym (append-nil g.sofar) ∙ g.gained) g.holds.formed (now ∙ ap (λ (x : State). x.pairs) g.holds.is),
       g.room,
     )
-
-pub going_from : (qs : List Pair) (room : ℕ) (s : State) (cs : List Asked) {given : List Said} → s ≡ fresh qs room → Holds qs [] s → given ≡ [] → Going (standing s true) cs (standing s true) cs given
-going_from qs room s cs new h empty =
-    let start : Going (standing s true) cs (standing s true) cs [] = going_start (standing s true) cs (subst (λ (x : List Pair). Holds x [] s) (ap (λ (x : State). x.pairs) (sym new)) h) in
-    subst (λ (x : List Said). Going (standing s true) cs (standing s true) cs x) (sym empty) start

@@ -1,7 +1,7 @@
 -- A walk along the links passes the ends of a repeat, each of which is written. Assumes nothing.
 use Rattle.std.proofs.Common.{◌≡◌, ℕ, zero, suc, ◌+◌, ◌-◌, ◌<◌, ◌≤◌, Bool, true, false, cond, eqb, ltb, List, [], ◌∷◌, ◌++◌, length, get_or, drop, set, filter, Some, None, Option, sym, refl, ap, ◌∙◌, ⊎_elim, arith, length-append}
 use Rattle.std.specs.List.{range_with_len}
-use Rattle.std.proofs.lemmas.List.{get_or_past, drop_more, set_at, append_assoc, append-nil, length_push}
+use Rattle.std.proofs.lemmas.List.{get_or_past, drop_more, set_at, append_assoc, length_push}
 use Rattle.std.proofs.lemmas.Bool.{cond_both, cond-true, cond-false, lt-ltb, le-ltb, ltb-true}
 use Rattle.book.specs.declared.entries.Entry.{Entry}
 use Rattle.book.specs.Repeats.{first}
@@ -107,9 +107,6 @@ pub record Filling (all before rest : List ℕ) (n : ℕ) (table : List ℕ) : T
   pub now_is : table ≡ done ++ drop n before
 
 module _ (all before : List ℕ) where
-  pub filling_none : (rest : List ℕ) → rest ≡ all → Filling all before rest 0 before
-  filling_none rest e = record { done = []; whole = e; count = refl; now_is = refl }
-
   module _ (rest rest' : List ℕ) (n x : ℕ) (table : List ℕ) (next : rest ≡ x ∷ rest') (f : Filling all before rest n table) (room : length all ≤ length before) where
     pub filling_below : n < length before
     filling_below = omega (arith, room, ap length f.whole, length-append f.done rest, ap length next, f.count)
@@ -126,8 +123,3 @@ module _ (all before : List ℕ) where
               ∙ (set_at f.done (get_or before n 0) (drop (n + 1) before) x n f.count
               ∙ sym (append_assoc f.done (x ∷ []) (drop (n + 1) before)));
         }
-
-  pub filling_all : (n : ℕ) (table : List ℕ) → Filling all before [] n table → table ≡ all ++ drop (length all) before
-  filling_all n table f =
-      let done : f.done ≡ all = sym (append-nil f.done) ∙ f.whole in
-      f.now_is ∙ (ap (λ d. d ++ drop n before) done ∙ ap (λ k. all ++ drop k before) (sym f.count ∙ ap length done))

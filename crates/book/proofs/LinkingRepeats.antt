@@ -52,9 +52,6 @@ module _ (es : List Entry) (firsts : List ℕ) (is : firsts ≡ map first (repea
     pub ends_at : ends_of es k ≡ ends_with es (get_or firsts k 0)
     ends_at = at_k.all ∙ ap (ends_with es) (sym first_at)
 
-    pub two_at : 2 ≤ length (ends_of es k)
-    two_at = at_k.two
-
 -- What a result that is chosen by a test tells of the test.
 cond_ok : {X Y : Type 0} (b : Bool) (x y : X) (f : Y) → ◌≡◌ {A = Result X Y} (Ok x) (cond b (Ok y) (Err f)) → (b ≡ true) × (x ≡ y)
 cond_ok true x y f e = (refl, cc)

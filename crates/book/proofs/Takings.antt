@@ -1,12 +1,11 @@
 -- Taking a word, said of the words. Assumes nothing.
-use Rattle.std.proofs.Common.{◌≡◌, ℕ, ◌-◌, ◌<◌, ◌≤◌, Bool, true, false, List, [], ◌∷◌, ◌++◌, length, take, drop, Some, None, Ok, Err, Option, Result, sym, refl, ap, ◌∙◌, ⊎_elim, arith}
+use Rattle.std.proofs.Common.{◌≡◌, ℕ, ◌-◌, ◌<◌, ◌≤◌, List, [], ◌∷◌, ◌++◌, length, take, drop, Some, None, Ok, Err, Option, Result, sym, refl, ap, ◌∙◌, ⊎_elim, arith}
 use Rattle.std.proofs.lemmas.Bool.{cond-true, cond-false, lt-ltb, le-ltb, le-leb, lt-leb, cases_lt}
 use Rattle.std.proofs.lemmas.List.{append-nil, take_rest}
 use Rattle.names.specs.declared.refusals.Refusal.{Refusal}
 use Rattle.names.specs.declared.refusals.Refusal.TheVariants.{RankAboveTops, BookFull, RegisterFull}
 use Rattle.registers.specs.declared.pairs.Pair.{Pair}
 use Rattle.book.specs.Words.{Word}
-use Rattle.labels.specs.Spellings.{made_if}
 use Rattle.book.specs.Passages.{none, count}
 use Rattle.book.specs.Tops.{tops}
 use Rattle.book.specs.declared.entries.Entry.{Entry}
@@ -126,8 +125,3 @@ fresh_holds qs room s e = rw e (record { formed = tt; is = refl })
 -- a taking of a word that is spelled otherwise
 pub took_as : (s : State) {t : State} {v w : Word} {r : Result (ℕ × ℕ) Refusal} → r ≡ take_answer s v → t ≡ after_take s v → v ≡ w → (r ≡ take_answer s w) × (t ≡ after_take s w)
 took_as s a b e = (a ∙ ap (take_answer s) e, b ∙ ap (after_take s) e)
-
--- a label that is made is spelled as it should be
-pub made_is : (b : Bool) (s t : List ℕ) → Some s ≡ made_if b t → s ≡ t
-made_is true s t e = cc
-made_is false s t e = let z : ◌≡◌ {A = ℕ} 0 1 = cc in absurd (omega arith)

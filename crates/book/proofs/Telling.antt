@@ -233,13 +233,6 @@ opened_fine text x e = by (ltb 65536 (length text)) e
     by true e' = let z : ◌≡◌ {A = ℕ} 0 1 = cc in absurd (omega arith)
     by false e' = cc
 
-pub opened_long : (r : Reading) (text : List ℕ) (f : Fault) → Err f ≡ opening text → (placed r (text_told text).tokens ≡ []) × ((text_told text).fault ≡ Some f)
-opened_long r text f e = by (ltb 65536 (length text)) e
-  where
-    by : (b : Bool) → Err f ≡ cond b (Err (fault_at 0 TextTooLong)) (Ok (told None (pieces 0 text))) → (placed r (cond b (stopped TextTooLong 0) (told None (pieces 0 text))).tokens ≡ []) × ((cond b (stopped TextTooLong 0) (told None (pieces 0 text))).fault ≡ Some f)
-    by true e' = (refl, cc)
-    by false e' = let z : ◌≡◌ {A = ℕ} 0 1 = cc in absurd (omega arith)
-
 -- a reading that comes to its end
 module _ (s t : State) (r : Reading) (text : List ℕ) (x₀ : Telling) (whole : x₀ ≡ text_told text) (after : t ≡ takes_all s (placed r x₀.tokens)) where
   pub read_after : t ≡ after_read s r text
