@@ -33,20 +33,6 @@ loop-p-preserved c =
       )
     ]
 
-pub push_reserved-requires : goal.push_reserved-requires
-push_reserved-requires c =
-    let i = c.loop-p.invariant in
-    let over = ap length c.as_slice-entry-items.ensures.value in
-    omega (arith, i.0.low, c.loop-p-test.true, over, c.as_slice-entry-items.ensures.kept.few, c.loop-p.self.listing, c.loop-p.self.firsts.ok.0)
-
-pub opens_repeat-requires : goal.opens_repeat-requires
-opens_repeat-requires c =
-    let l : c.loop-p.p < length c.args.entries.now = omega (arith, c.loop-p-test.true, ap length c.as_slice-entry-items.ensures.value) in
-    record {
-      within = omega (arith, l, ap length c.loop-p.invariant.2, c.requires.linked.long, c.loop-p.self.later.ok.0);
-      low = rw c.as_slice-entry-items.ensures.value (c.as_slice-entry-items.ensures.kept.numbered c.loop-p.p l);
-    }
-
 pub returns : goal.returns
 returns c =
     let i = c.loop-p.invariant in

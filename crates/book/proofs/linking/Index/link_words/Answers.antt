@@ -1,12 +1,6 @@
 use Rattle.std.proofs.Common.{◌≡◌, ◌+◌, ◌-◌, ◌<◌, length, vec_items, arith, ap}
-use Rattle.book.proofs.LinkingWords.{Back, back_none, back_more, back_all}
+use Rattle.book.proofs.LinkingWords.{Back, back_more}
 use Rattle.book.proofs.linking.Index.link_words.Goals as goal
-
-pub loop-p-init : goal.loop-p-init
-loop-p-init c =
-    let words = ap length c.as_slice-count.ensures.value in
-    let long : length (vec_items c.resize.new.self) ≡ length c.args.entries.now = omega (arith, words, rw c.unwrap.ensures at c.resize.ensures.len, c.resize.new.self.ok.0) in
-    rw words (back_none c.args.entries.now (vec_items c.args.self.now.latest) _ long)
 
 pub loop-p-preserved : goal.loop-p-preserved
 loop-p-preserved c =
@@ -18,8 +12,3 @@ loop-p-preserved c =
     let l : p < length es = omega (arith, c.loop-p-test.true, c.loop-p.auto.p, ap length c.as_slice-count.ensures.value) in
     let low = c.as_slice-count.ensures.kept.numbered p l in
     back_more es p table (vec_items c.loop-p.self.later) b _ _ l (omega (arith, low, c.loop-p.self.wide, c.loop-p.self.latest.ok.0)) c.link_word.ensures.latest c.link_word.ensures.later
-
-pub returns : goal.returns
-returns c =
-    let all = back_all c.args.entries.now c.loop-p.p (vec_items c.loop-p.self.latest) (vec_items c.loop-p.self.later) c.loop-p-test.false c.loop-p.invariant in
-    record { linked = all.0; opened = all.1 }
