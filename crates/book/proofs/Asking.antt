@@ -1,8 +1,8 @@
 -- Questions, said of the words. Assumes nothing.
-use Rattle.std.proofs.Common.{◌≡◌, ℕ, zero, suc, ◌+◌, ◌-◌, ◌<◌, ◌≤◌, Bool, true, false, cond, ◌&&◌, eqb, ltb, leb, List, [], ◌∷◌, ◌++◌, length, get_or, drop, Ok, Err, filter, Result, sym, refl, ap, ◌∙◌, arith}
+use Rattle.std.proofs.Common.{◌≡◌, ℕ, zero, suc, ◌+◌, ◌-◌, ◌<◌, ◌≤◌, Bool, true, false, cond, ◌&&◌, eqb, ltb, leb, List, [], ◌∷◌, ◌++◌, map, length, get_or, drop, Ok, Err, filter, Result, sym, refl, ap, ◌∙◌, arith}
 use Rattle.std.specs.List.{flat_map, AllByRecursion, range_with_len}
 use Rattle.std.proofs.lemmas.Bool.{cond_both, ltb-true}
-use Rattle.std.proofs.lemmas.List.{length-append}
+use Rattle.std.proofs.lemmas.List.{length-append, length-map}
 use Rattle.std.proofs.ByRecursion.{All-get_or}
 use Rattle.names.specs.declared.refusals.Refusal.{Refusal}
 use Rattle.names.specs.declared.refusals.Refusal.TheVariants.{NoSuchPosition, NoSuchRepeat, TableTooShort}
@@ -79,6 +79,10 @@ joined_few f h a (suc n) = omega (arith, h a, joined_few f h (a + 1) n, length-a
 
 pub repeats_few : (es : List Entry) → length (repeats_of es) ≤ length es
 repeats_few es = joined_few (λ p. listed_at p (ends (number_at es) (length es) (number_at es p))) (λ p. listed_one p (ends (number_at es) (length es) (number_at es p))) 0 (length es)
+
+-- the first ends are as many as the repeats
+pub count_repeats : (es : List Entry) (firsts : List ℕ) → firsts ≡ map first (repeats_of es) → length firsts ≡ length (repeats_of es)
+count_repeats es firsts is = ap length is ∙ length-map (repeats_of es) first
 
 -- the listing of a book that took the words
 module _ (qs : List Pair) (ws : List Word) where

@@ -78,6 +78,3 @@ held_registering qs row (w ∷ ws) (suc p) k f h = held_registering (with_word q
 -- every passage of the words is held
 pub held_registered : (qs : List Pair) (ws : List Word) (p : ℕ) → Formed ws → p < length ws → Held (registered qs ws) (passage_at ws p)
 held_registered qs ws p f h = held_registering qs none ws p tt f h
-
-pub grows_none : (qs : List Pair) → Grows qs qs
-grows_none qs = ([], sym (append-nil qs))

@@ -1,5 +1,5 @@
 -- The law of arrangements. Assumes nothing.
-use Rattle.std.proofs.Common.{◌≡◌, ℕ, suc, ◌<◌, ◌≤◌, Bool, true, false, cond, ◌&&◌, ltb, leb, ◌⊎◌, List, [], ◌∷◌, ◌++◌, length, drop, Some, None, Ok, Err, Option, sym, refl, ap, ◌∙◌, subst, inl, inr, ⊎_elim, arith}
+use Rattle.std.proofs.Common.{◌≡◌, ℕ, suc, ◌<◌, ◌≤◌, Bool, true, false, cond, ◌&&◌, ltb, leb, ◌⊎◌, List, [], ◌∷◌, ◌++◌, length, drop, Some, None, Ok, Err, Option, sym, refl, ap, ◌∙◌, inl, inr, ⊎_elim, arith}
 use Rattle.std.proofs.lemmas.Bool.{ltb-true, ltb-false, leb-true, leb-false}
 use Rattle.std.proofs.lemmas.List.{append-nil, append_assoc, length-append, length_push, take-append-le, take_at}
 use Rattle.std.proofs.ByRecursion.{All-get_or}
@@ -15,7 +15,7 @@ use Rattle.book.specs.Repeats.{◌among◌, first, Repeat, SamePassage, Listing}
 use Rattle.book.specs.States.{State, fresh, answered}
 use Rattle.book.specs.Taken.{entry_at, Holds, word_refusal}
 use Rattle.book.specs.Questions.{word_group, listing, repeat_count, ends_at, listed_by, word_listed, word_table}
-use Rattle.book.specs.Arrangements.{Asked, take, read, close, reopen, words, tops, group as group', start, repeats, list, Said, taken, told, listed, answer_to, taking_after, words_of, words_taken, answers_on, answers}
+use Rattle.book.specs.Arrangements.{Asked, take, group as group', repeats, list, Said, taken, told, listed, answer_to, taking_after, words_of, words_taken, answers_on, answers}
 use Rattle.book.specs.Performed.{Stand, standing, Performs}
 use Rattle.book.specs.Law.{Gives, GivenOut, TellsRepeats, ListedThroughout, Law}
 use Rattle.book.proofs.Numbered.{Grows}
@@ -113,14 +113,6 @@ listing_of qs ws f = repeats_listed qs ws f
 -- what a call tells of the repeats
 tells_so : (qs : List Pair) (room : ℕ) (ws : List Word) (b : Bool) (c : Asked) → TellsRepeats ws (listing qs ws) c (answer_to qs room ws b c)
 unfolding Kinds
-tells_so qs room ws b (take w) = tt
-tells_so qs room ws b (read r text) = tt
-tells_so qs room ws b close = tt
-tells_so qs room ws b reopen = tt
-tells_so qs room ws b words = tt
-tells_so qs room ws b tops = tt
-tells_so qs room ws b (group' p) = tt
-tells_so qs room ws b (start p) = tt
 tells_so qs room ws true repeats = tt
 tells_so qs room ws false repeats = refl
 tells_so qs room ws true (list k table) = tt
@@ -131,6 +123,7 @@ tells_so qs room ws false (list k table) =
     (λ y. rw (y.2, y.3) (refl, inr (refl, y.0, y.1)))
     (λ y. rw (y.1, y.2) (refl, inl (refl, y.0))))
     (kinds qs ws k table)
+tells_so qs room ws b c = tt
 
 all_listed : (qs : List Pair) (room : ℕ) (cs : List Asked) (ws : List Word) (b : Bool) → Formed (ws ++ words_taken cs (answers_on qs room ws b cs)) → ListedThroughout ws cs (answers_on qs room ws b cs)
 all_listed qs room [] ws b f = tt
@@ -181,17 +174,11 @@ still qs ws p g a = rw append-nil a
 gives_at : (qs : List Pair) (room : ℕ) (ws : List Word) (b : Bool) (c : Asked) (p g : ℕ) → Formed ws → Gives (length ws) c (answer_to qs room ws b c) p g → At qs (ws ++ words_of c (answer_to qs room ws b c)) p g
 gives_at qs room ws true (take w) p g f h = taking_gives qs room ws w p g h
 gives_at qs room ws false (take w) p g f h = absurd h
-gives_at qs room ws b (read r text) p g f h = absurd h
-gives_at qs room ws b close p g f h = absurd h
-gives_at qs room ws b reopen p g f h = absurd h
-gives_at qs room ws b words p g f h = absurd h
-gives_at qs room ws b tops p g f h = absurd h
 gives_at qs room ws true (group' q) p g f h = still qs ws p g (question_gives qs ws q p g h)
 gives_at qs room ws false (group' q) p g f h = still qs ws p g (question_gives qs ws q p g h)
-gives_at qs room ws b (start q) p g f h = absurd h
-gives_at qs room ws b repeats p g f h = absurd h
 gives_at qs room ws true (list k table) p g f h = absurd h
 gives_at qs room ws false (list k table) p g f h = still qs ws p g (listing_gives qs ws k table p g f h)
+gives_at qs room ws b c p g f h = absurd h
 
 given_at : (qs : List Pair) (room : ℕ) (cs : List Asked) (ws : List Word) (b : Bool) (p g : ℕ) → Formed (ws ++ words_taken cs (answers_on qs room ws b cs)) → GivenOut (length ws) cs (answers_on qs room ws b cs) p g → At qs (ws ++ words_taken cs (answers_on qs room ws b cs)) p g
 given_at qs room [] ws b p g f h = absurd h
@@ -230,8 +217,3 @@ going_end qs room s₀ s cs rest given rs new going over now =
       lawful qs room cs given g.sofar rs (sym (append-nil given) ∙ g.replies) (sym (append-nil g.sofar) ∙ g.gained) g.holds.formed (now ∙ ap (λ (x : State). x.pairs) g.holds.is),
       g.room,
     )
-
-pub going_from : (qs : List Pair) (room : ℕ) (s : State) (cs : List Asked) {given : List Said} → s ≡ fresh qs room → Holds qs [] s → given ≡ [] → Going (standing s true) cs (standing s true) cs given
-going_from qs room s cs new h empty =
-    let start : Going (standing s true) cs (standing s true) cs [] = going_start (standing s true) cs (subst (λ (x : List Pair). Holds x [] s) (ap (λ (x : State). x.pairs) (sym new)) h) in
-    subst (λ (x : List Said). Going (standing s true) cs (standing s true) cs x) (sym empty) start

@@ -1,5 +1,5 @@
 -- What is listed of the repeat of a number, by the first ends that were gathered. Assumes nothing.
-use Rattle.std.proofs.Common.{◌≡◌, ℕ, zero, suc, ◌+◌, ◌<◌, ◌≤◌, Bool, true, false, cond, ltb, leb, List, [], ◌∷◌, ◌++◌, map, length, get_or, drop, Ok, Err, Result, sym, refl, ap, ◌∙◌, ⊎_elim, arith}
+use Rattle.std.proofs.Common.{◌≡◌, ℕ, ◌<◌, ◌≤◌, Bool, true, false, cond, ltb, leb, List, [], ◌++◌, map, length, get_or, drop, Ok, Err, Result, sym, refl, ap, ◌∙◌, ⊎_elim, arith}
 use Rattle.std.specs.List.{AllByRecursion, range_with_len}
 use Rattle.std.proofs.lemmas.List.{length-map, get_or-map}
 use Rattle.std.proofs.ByRecursion.{All-get_or}
@@ -9,47 +9,9 @@ use Rattle.names.specs.declared.refusals.Refusal.TheVariants.{NoSuchRepeat, Tabl
 use Rattle.book.specs.declared.entries.Entry.{Entry}
 use Rattle.book.specs.declared.linking.Listed.{Listed}
 use Rattle.book.specs.Repeats.{first, listed_at}
-use Rattle.book.specs.Linking.{number_at, repeats_of, ends_from, ends_with, ends_of, Linked, OpensGroup, along, listing_from, listed_answer, listed_table}
+use Rattle.book.specs.Linking.{repeats_of, ends_with, ends_of, Linked, OpensGroup, along, listing_from, listed_answer, listed_table}
 use Rattle.book.proofs.Listings.{among_counting, all_joined, Opens, opens_or_not}
-use Rattle.book.proofs.LinkingEnds.{from_here, cases_from}
-use Rattle.book.proofs.LinkingFirsts.{opened_list}
-use Rattle.book.proofs.LinkingListed.{ends_all_below}
-
--- The links lead through the ends of a group, from its first on.
-module _ (es : List Entry) (later : List ℕ) (linked : Linked es later) where
-  abbrev number : ℕ → ℕ
-  number = number_at es
-
-  abbrev n : ℕ
-  n = length es
-
-  -- by what the rest of a group is, that leads on from the link
-  along_more : (p g : ℕ) → p < n → number p ≡ g → ((q : ℕ) → p < q → q < n → number q ≡ g → along later q (length (ends_from number q n g)) ≡ ends_from number q n g) → along later p (length (ends_from number p n g)) ≡ ends_from number p n g
-  along_more p g l e on =
-      let rest = ends_from number (p + 1) n g in
-      let link : get_or later p 0 ≡ first rest = linked.each p l ∙ ap (λ x. first (ends_from number (p + 1) n x)) e in
-      let tail : along later (get_or later p 0) (length rest) ≡ rest = ⊎_elim
-      (λ a. rw a.0 refl)
-      (λ a.
-      let q = a.0 in
-      let f = a.1 in
-      let same : rest ≡ ends_from number q n g = f.list ∙ sym (from_here number n q g f.below f.has) in
-      let to : get_or later p 0 ≡ q = link ∙ ap first f.list in
-      rw (to, same) (on q (omega (arith, f.low)) f.below f.has))
-      (cases_from number n (p + 1) g) in
-      rw (from_here number n p g l e) (ap (λ x. p ∷ x) tail)
-
-  along_by : (m p g : ℕ) → n ≤ p + m → p < n → number p ≡ g → along later p (length (ends_from number p n g)) ≡ ends_from number p n g
-  along_by zero p g h l e = absurd (omega arith)
-  along_by (suc m) p g h l e = along_more p g l e (λ q a b f. along_by m q g (omega arith) b f)
-
-  pub along_ends : (p : ℕ) → OpensGroup es p → along later p (length (ends_with es p)) ≡ ends_with es p
-  along_ends p o =
-      let same : ends_with es p ≡ ends_from number p n (number p) = opened_list number n p o.below o.opens ∙ sym (from_here number n p (number p) o.below refl) in
-      rw same (along_by n p (number p) (omega arith) o.below refl)
-
-  pub along_below : (p : ℕ) → OpensGroup es p → AllByRecursion (λ q. q < length later) (along later p (length (ends_with es p)))
-  along_below p o = rw (along_ends p o, linked.long) (ends_all_below number n (number p))
+use Rattle.book.proofs.LinkingListed.{along_ends}
 
 -- The repeat of number k is the group of the k-th first end.
 
@@ -89,9 +51,6 @@ module _ (es : List Entry) (firsts : List ℕ) (is : firsts ≡ map first (repea
 
     pub ends_at : ends_of es k ≡ ends_with es (get_or firsts k 0)
     ends_at = at_k.all ∙ ap (ends_with es) (sym first_at)
-
-    pub two_at : 2 ≤ length (ends_of es k)
-    two_at = at_k.two
 
 -- What a result that is chosen by a test tells of the test.
 cond_ok : {X Y : Type 0} (b : Bool) (x y : X) (f : Y) → ◌≡◌ {A = Result X Y} (Ok x) (cond b (Ok y) (Err f)) → (b ≡ true) × (x ≡ y)
@@ -149,18 +108,16 @@ module _ (es : List Entry) (firsts : List ℕ) (is : firsts ≡ map first (repea
           (ap Err d.1 ∙ sym (cond-true _ _ _ here ∙ cond-false _ _ _ n), sym (cond-false _ _ _ (and_right _ _ n)))
 
       module _ (later : List ℕ) (linked : Linked es later) (fits : Ok tt ≡ placed) where
-        pub places_fit : t.count ≤ length table
-        places_fit = leb-true t.count (length table) (cond_ok (leb t.count (length table)) tt tt TableTooShort fits).0
+        pub ends_walked : along later p ≡ ends_of es k
+        ends_walked = along_ends es later linked p opens_first ∙ sym ends_are
 
-        -- what writing the ends requires
-        pub links_below : AllByRecursion (λ q. q < length later) (along later p t.count)
-        links_below = rw (count_is, ends_are) (along_below es later linked p opens_first)
+        pub places_fit : length (along later p) ≤ length table
+        places_fit = omega (arith, leb-true t.count (length table) (cond_ok (leb t.count (length table)) tt tt TableTooShort fits).0, count_is, ap length ends_walked)
 
-        pub all_listed : (after : List ℕ) → after ≡ along later p t.count ++ drop t.count table → (Ok t ≡ listed_answer es k (length table)) × (after ≡ listed_table es k table)
+        pub all_listed : (after : List ℕ) → after ≡ along later p ++ drop (length (along later p)) table → (Ok t ≡ listed_answer es k (length table)) × (after ≡ listed_table es k table)
         unfolding listed_answer listed_table
         all_listed after e =
-            let y = le-leb (length (ends_of es k)) (length table) (omega (arith, count_is, places_fit)) in
-            let walk : along later p (length (ends_of es k)) ≡ ends_of es k = rw ends_are (along_ends es later linked p opens_first) in (
+            let y = le-leb (length (ends_of es k)) (length table) (omega (arith, places_fit, ap length ends_walked)) in (
               ap Ok (told ∙ ap (listing_from es) (p_is ∙ first_at es firsts is k below)) ∙ sym (cond-true _ _ _ here ∙ cond-true _ _ _ y),
-              e ∙ (ap (λ m. along later p m ++ drop m table) count_is ∙ (ap (λ x. x ++ drop (length (ends_of es k)) table) walk ∙ sym (cond-true _ _ _ (and_from _ _ here y)))),
+              e ∙ (ap (λ x. x ++ drop (length x) table) ends_walked ∙ sym (cond-true _ _ _ (and_from _ _ here y))),
             )

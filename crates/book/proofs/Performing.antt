@@ -1,16 +1,13 @@
 -- One call on a book, said of the words. Assumes nothing.
-use Rattle.std.proofs.Common.{◌≡◌, ℕ, Bool, true, List, [], ◌∷◌, Some, None, Option, Result, refl, ap, ◌∙◌}
-use Rattle.std.proofs.lemmas.List.{append-nil}
+use Rattle.std.proofs.Common.{◌≡◌, ℕ, true, List, [], ◌∷◌, Some, None, Option, Result, refl, ap, ◌∙◌}
 use Rattle.names.specs.declared.refusals.Fault.{Fault}
 use Rattle.names.specs.declared.refusals.Refusal.{Refusal}
-use Rattle.registers.specs.declared.pairs.Pair.{Pair}
-use Rattle.book.specs.declared.linking.Listed.{Listed}
 use Rattle.book.specs.declared.readings.Reading.{Reading}
 use Rattle.book.specs.Words.{Word}
 use Rattle.book.specs.States.{State, refused, grown, unless, after_take}
-use Rattle.book.specs.Taken.{Holds, Takes}
+use Rattle.book.specs.Taken.{Takes}
 use Rattle.book.specs.Readings.{Placed, text_words, grown_by, takes_all, after_read, Reads}
-use Rattle.book.specs.Arrangements.{Asked, take, read, Said, taken, took, listed, answer_to, taking_after, words_of}
+use Rattle.book.specs.Arrangements.{Asked, take, read, Said, taken, took}
 use Rattle.book.specs.Performed.{Stand, standing, Performs}
 
 -- no call changes the capacity
@@ -48,18 +45,5 @@ performs_read s t r text x after k =
       holds = k.holds;
     }
 
--- calls that add no word
-pub performs_kept : (s t : State) (b b' : Bool) (c : Asked) (a : Said) → t ≡ s → b' ≡ taking_after b c → words_of c a ≡ [] → ((qs : List Pair) (ws : List Word) → Holds qs ws s → a ≡ answer_to qs s.room ws b c) → Performs (standing s b) (standing t b') c a
-performs_kept s t b b' c a same to none answers =
-    record {
-      room = ap (λ (x : State). x.room) same;
-      taking = to;
-      answers = answers;
-      holds = λ qs ws h. rw (none, append-nil, same) h;
-    }
-
 pub performs_as : {s t : Stand} {c c' : Asked} {a : Said} → c ≡ c' → Performs s t c' a → Performs s t c a
 performs_as e p = rw e p
-
-pub listing_same : {r r' : Result Listed Refusal} {t t' : List ℕ} → r ≡ r' → t ≡ t' → listed r t ≡ listed r' t'
-listing_same {r} {r'} {t} {t'} a b = ap (λ x. listed x t) a ∙ ap (λ x. listed r' x) b

@@ -4,9 +4,8 @@ use Rattle.std.proofs.lemmas.Bool.{cases_lt}
 use Rattle.std.proofs.lemmas.List.{length_push, length-take-le, get_or_append_left, get_or_push, get_or-take, drop_more, drop_all}
 use Rattle.book.specs.declared.entries.Entry.{Entry}
 use Rattle.book.specs.Entries.{entry}
-use Rattle.book.specs.Kept.{LowGroups, LowStarts, LowTops}
+use Rattle.book.specs.Kept.{LowTops}
 use Rattle.book.specs.States.{start_over}
-use Rattle.book.specs.Linking.{later_of, Numbered, Started, Linked}
 
 each_push : (P : ℕ → Entry → Type 0) (es more : List Entry) (e : Entry) → ((p : ℕ) → p < length es → P p (get_or es p (entry 0 0))) → P (length es) e → more ≡ es ++ e ∷ [] → (p : ℕ) → p < length more → P p (get_or more p (entry 0 0))
 each_push P es more e old new is p h =
@@ -17,12 +16,6 @@ each_push P es more e old new is p h =
     let at : length es ≡ p = omega (arith, long, h, b) in
     subst (P p) (sym (ap (λ l. get_or l p (entry 0 0)) is ∙ get_or_push es e (entry 0 0) p at)) (subst (λ (n : ℕ). P n e) at new))
     (cases_lt p (length es))
-
-pub numbered_push : (es more : List Entry) (e : Entry) → LowGroups es → e.group ≤ 32768 → more ≡ es ++ e ∷ [] → LowGroups more
-numbered_push es more e old new is = each_push (λ p x. x.group ≤ 32768) es more e old new is
-
-pub started_push : (es more : List Entry) (e : Entry) → LowStarts es → e.start ≤ length es → more ≡ es ++ e ∷ [] → LowStarts more
-started_push es more e old new is = each_push (λ p x. x.start ≤ p) es more e old new is
 
 within_take : (ts : List Entry) (n k : ℕ) → k ≤ length ts → LowTops ts n → LowTops (take k ts) n
 within_take ts n k fits old p h =
@@ -40,13 +33,3 @@ start_within ts n k old =
     (λ (b : k < length ts). subst (λ (l : List Entry). start_over l n ≤ n) (sym (drop_more ts k (entry 0 0) b)) (old k b))
     (λ (b : length ts ≤ k). subst (λ (l : List Entry). start_over l n ≤ n) (sym (drop_all k ts b)) (omega arith))
     (cases_lt k (length ts))
-
--- as linking asks for it
-pub numbered_in : (es read : List Entry) (n : ℕ) → read ≡ es → LowGroups es → 32768 < n → Numbered read n
-numbered_in es read n e low wide = rw e (record { each = λ p h. let l = low p h in omega (arith, l, wide) })
-
-pub started_in : (es read : List Entry) → read ≡ es → LowStarts es → Started read
-started_in es read e low = rw e (record { each = low })
-
-pub linked_in : (es read : List Entry) (later links : List ℕ) → read ≡ es → links ≡ later → length later ≡ length es → ((p : ℕ) → p < length es → get_or later p 0 ≡ later_of es p) → Linked read links
-linked_in es read later links e f long each = rw (e, f) (record { long = long; each = each })

@@ -43,9 +43,6 @@ groups_last qs n row h = simp groups_in_order (ap (map (group qs)) (last_in_orde
 groups_without_last : (qs : List Pair) (n : ℕ) (row : Row) → n ≤ count row → groups qs (without_last n row) ≡ take (count row - n) (groups qs row)
 groups_without_last qs n row h = groups_in_order qs (without_last n row) ∙ ap (map (group qs)) (without_last_in_order n row h) ∙ sym (take-map (group qs) (count row - n) (in_order row)) ∙ ap (take (count row - n)) (sym (groups_in_order qs row))
 
-pub groups_push : (qs : List Pair) (row : Row) (w : Word) → w.rank ≤ count row → groups qs (push row w) ≡ take (count row - w.rank) (groups qs row) ++ group qs (made row w) ∷ []
-groups_push qs row w h = ap (λ l. l ++ group qs (made row w) ∷ []) (groups_without_last qs w.rank row h)
-
 -- every passage of the words, in the order of their ends
 abbrev pub passages : Row → List Word → List Passage
 passages row [] = []

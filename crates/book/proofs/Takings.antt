@@ -1,18 +1,17 @@
 -- Taking a word, said of the words. Assumes nothing.
-use Rattle.std.proofs.Common.{◌≡◌, ℕ, ◌-◌, ◌<◌, ◌≤◌, Bool, true, false, List, [], ◌∷◌, ◌++◌, length, take, drop, Some, None, Ok, Err, Option, Result, sym, refl, ap, ◌∙◌, ⊎_elim, arith}
+use Rattle.std.proofs.Common.{◌≡◌, ℕ, ◌-◌, ◌<◌, ◌≤◌, List, [], ◌∷◌, ◌++◌, length, take, drop, Some, None, Ok, Err, Option, Result, sym, refl, ap, ◌∙◌, ⊎_elim, arith}
 use Rattle.std.proofs.lemmas.Bool.{cond-true, cond-false, lt-ltb, le-ltb, le-leb, lt-leb, cases_lt}
 use Rattle.std.proofs.lemmas.List.{append-nil, take_rest}
 use Rattle.names.specs.declared.refusals.Refusal.{Refusal}
 use Rattle.names.specs.declared.refusals.Refusal.TheVariants.{RankAboveTops, BookFull, RegisterFull}
 use Rattle.registers.specs.declared.pairs.Pair.{Pair}
 use Rattle.book.specs.Words.{Word}
-use Rattle.labels.specs.Spellings.{made_if}
 use Rattle.book.specs.Passages.{none, count}
 use Rattle.book.specs.Tops.{tops}
 use Rattle.book.specs.declared.entries.Entry.{Entry}
 use Rattle.book.specs.Groups.{items, entered, reached, registered, Enters}
 use Rattle.book.specs.Entries.{entry, groups_of}
-use Rattle.book.specs.States.{State, state, fresh, children, start_over, needs, refusal, refused, taken, grown, answered, unless, take_answer, after_take}
+use Rattle.book.specs.States.{State, state, fresh, children, start_over, needs, refusal, refused, allowed, taken, grown, answered, unless, take_answer, after_take}
 use Rattle.book.specs.Taken.{entry_at, entries_of, state_of, Holds, word_refusal, added_by, Takes}
 use Rattle.book.proofs.Growing.{same_state, tops_long, entries_long, formed_push, taken_push, grown_push}
 
@@ -72,14 +71,24 @@ takes s t w r a b =
       holds = λ qs ws h. rw (a, b) (grown_as qs ws s w h (refused s w) (sym (refused_as qs ws s w h)));
     }
 
--- what a taking comes to, by why it is refused
-pub take_refused : (s : State) (w : Word) (r : Refusal) → Some r ≡ refused s w → (Err r ≡ take_answer s w) × (s ≡ after_take s w)
-unfolding take_answer after_take
-take_refused s w r e = (ap (λ o. answered o (taken s w)) e, ap (λ o. unless o (grown s w) s) e)
+-- what a taking comes to, by what the check of the word says
+refused_as_said : (o : Option Refusal) (r : Refusal) → Err r ≡ allowed o → o ≡ Some r
+refused_as_said None r e = let z : ◌≡◌ {A = ℕ} 0 1 = cc in absurd (omega arith)
+refused_as_said (Some q) r e = cc
 
-pub take_fine : (s t : State) (w : Word) (e : Entry) → None ≡ refused s w → e ≡ taken s w → t ≡ grown s w → (Ok (e.group, e.start) ≡ take_answer s w) × (t ≡ after_take s w)
+pub fine_as_said : (o : Option Refusal) → Ok tt ≡ allowed o → o ≡ None
+fine_as_said None e = refl
+fine_as_said (Some r) e = let z : ◌≡◌ {A = ℕ} 0 1 = cc in absurd (omega arith)
+
+pub take_refused : (s : State) (w : Word) (r : Refusal) → Err r ≡ allowed (refused s w) → (Err r ≡ take_answer s w) × (s ≡ after_take s w)
 unfolding take_answer after_take
-take_fine s t w e why a b = (ap (λ x. answered None x) a ∙ ap (λ o. answered o (taken s w)) why, b ∙ ap (λ o. unless o (grown s w) s) why)
+take_refused s w r e =
+    let o = sym (refused_as_said (refused s w) r e) in
+    (ap (λ o. answered o (taken s w)) o, ap (λ o. unless o (grown s w) s) o)
+
+pub take_fine : (s t : State) (w : Word) (e : Entry) → refused s w ≡ None → e ≡ taken s w → t ≡ grown s w → (Ok (e.group, e.start) ≡ take_answer s w) × (t ≡ after_take s w)
+unfolding take_answer after_take
+take_fine s t w e fine a b = (ap (λ x. answered None x) a ∙ ap (λ o. answered o (taken s w)) (sym fine), b ∙ ap (λ o. unless o (grown s w) s) (sym fine))
 
 -- A word that is added, from what the code works out.
 module _ (qs qs' : List Pair) (room room' : ℕ) (es es' ts ts' mid slice slice' : List Entry) (w : Word) (first n group start : ℕ)
@@ -116,8 +125,3 @@ fresh_holds qs room s e = rw e (record { formed = tt; is = refl })
 -- a taking of a word that is spelled otherwise
 pub took_as : (s : State) {t : State} {v w : Word} {r : Result (ℕ × ℕ) Refusal} → r ≡ take_answer s v → t ≡ after_take s v → v ≡ w → (r ≡ take_answer s w) × (t ≡ after_take s w)
 took_as s a b e = (a ∙ ap (take_answer s) e, b ∙ ap (after_take s) e)
-
--- a label that is made is spelled as it should be
-pub made_is : (b : Bool) (s t : List ℕ) → Some s ≡ made_if b t → s ≡ t
-made_is true s t e = cc
-made_is false s t e = let z : ◌≡◌ {A = ℕ} 0 1 = cc in absurd (omega arith)

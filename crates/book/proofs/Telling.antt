@@ -16,7 +16,7 @@ use Rattle.book.specs.declared.readings.Reading.{Reading}
 use Rattle.book.specs.Words.{Word}
 use Rattle.book.specs.States.{State, refused, grown, take_answer, after_take, answered, unless, taken}
 use Rattle.book.specs.Taken.{Holds, word_refusal}
-use Rattle.book.specs.Readings.{word_of, Placed, placing, placed, said_of, text_words, words_added, fault_at, faulting, first_fault, read_as, told_as, told_answer, after_told, stops, grown_by, takes_all, read_answer, after_read, Reads}
+use Rattle.book.specs.Readings.{word_of, Placed, placing, placed, said_of, text_words, words_added, fault_at, faulting, first_fault, read_as, told_as, told_answer, faulted, after_told, stops, grown_by, takes_all, read_answer, after_read, Reads}
 use Rattle.book.proofs.Takings.{refused_as, grown_as}
 
 -- Tokens begin one behind another, and the fault that stops them behind them all.
@@ -161,6 +161,15 @@ answered_refused : (o : Option Refusal) (s : State) (w : Word) (r : Refusal) →
 answered_refused None s w r e = let z : ◌≡◌ {A = ℕ} 0 1 = cc in absurd (omega arith)
 answered_refused (Some x) s w r e = cc
 
+-- what an answer with its byte says of the answer
+faulted_fine : {X : Type 0} (at : ℕ) (x : Result X Refusal) (y : X) → Ok y ≡ faulted at x → Ok y ≡ x
+faulted_fine at (Ok z) y e = cc
+faulted_fine at (Err r) y e = let z : ◌≡◌ {A = ℕ} 0 1 = cc in absurd (omega arith)
+
+faulted_refused : {X : Type 0} (at : ℕ) (x : Result X Refusal) (f : Fault) → Err f ≡ faulted at x → (r : Refusal) × (Err r ≡ x) × (f ≡ fault_at at r)
+faulted_refused at (Ok z) f e = let z : ◌≡◌ {A = ℕ} 0 1 = cc in absurd (omega arith)
+faulted_refused at (Err r) f e = (r, refl, cc)
+
 module _ (r : Reading) (s₀ : State) (x₀ : Telling) (s : State) (x : Telling) (t : Told) (going : Going r s₀ x₀ s x) (first : x.tokens ≡ t ∷ later_than_first x.tokens) where
   fault_first : stops s (placing t.byte (word_of r t.says) (placed r (later_than_first x.tokens))) x.fault ≡ stops s₀ (placed r x₀.tokens) x₀.fault
   fault_first = ap (λ ts. stops s (placed r ts) x.fault) (sym first) ∙ going.fault
@@ -168,9 +177,9 @@ module _ (r : Reading) (s₀ : State) (x₀ : Telling) (s : State) (x : Telling)
   after_first : takes_all s (placing t.byte (word_of r t.says) (placed r (later_than_first x.tokens))) ≡ takes_all s₀ (placed r x₀.tokens)
   after_first = ap (λ ts. takes_all s (placed r ts)) (sym first) ∙ going.after
 
-  pub going_more : (s' : State) (x' : Telling) (y : Option (ℕ × ℕ)) → Ok y ≡ told_answer s (word_of r t.says) → s' ≡ after_told s (word_of r t.says) → x' ≡ later x → Going r s₀ x₀ s' x'
+  pub going_more : (s' : State) (x' : Telling) (y : Option (ℕ × ℕ)) → Ok y ≡ faulted t.byte (told_answer s (word_of r t.says)) → s' ≡ after_told s (word_of r t.says) → x' ≡ later x → Going r s₀ x₀ s' x'
   unfolding take_answer after_take
-  going_more s' x' y a b l = rw l (by (word_of r t.says) a b fault_first after_first)
+  going_more s' x' y a b l = rw l (by (word_of r t.says) (faulted_fine _ _ _ a) b fault_first after_first)
     where
       by : (w : Option Word) → Ok y ≡ told_answer s w → s' ≡ after_told s w → stops s (placing t.byte w (placed r (later_than_first x.tokens))) x.fault ≡ stops s₀ (placed r x₀.tokens) x₀.fault → takes_all s (placing t.byte w (placed r (later_than_first x.tokens))) ≡ takes_all s₀ (placed r x₀.tokens) → Going r s₀ x₀ s' (later x)
       by None a' b' f g = record { fault = ap (λ u. stops u (placed r (later_than_first x.tokens)) x.fault) b' ∙ f; after = ap (λ u. takes_all u (placed r (later_than_first x.tokens))) b' ∙ g }
@@ -182,9 +191,9 @@ module _ (r : Reading) (s₀ : State) (x₀ : Telling) (s : State) (x : Telling)
             after = ap (λ u. takes_all u (placed r (later_than_first x.tokens))) to ∙ (ap (λ o. grown_by o (takes_all (grown s w) (placed r (later_than_first x.tokens))) s) (sym fine) ∙ g);
           }
 
-  pub going_refused : (s' : State) (e : Refusal) → Err e ≡ told_answer s (word_of r t.says) → s' ≡ after_told s (word_of r t.says) → (Some (fault_at t.byte e) ≡ stops s₀ (placed r x₀.tokens) x₀.fault) × (s' ≡ takes_all s₀ (placed r x₀.tokens))
+  stopped_there : (s' : State) (e : Refusal) → Err e ≡ told_answer s (word_of r t.says) → s' ≡ after_told s (word_of r t.says) → (Some (fault_at t.byte e) ≡ stops s₀ (placed r x₀.tokens) x₀.fault) × (s' ≡ takes_all s₀ (placed r x₀.tokens))
   unfolding take_answer after_take
-  going_refused s' e a b = by (word_of r t.says) a b fault_first after_first
+  stopped_there s' e a b = by (word_of r t.says) a b fault_first after_first
     where
       by : (w : Option Word) → Err e ≡ told_answer s w → s' ≡ after_told s w → stops s (placing t.byte w (placed r (later_than_first x.tokens))) x.fault ≡ stops s₀ (placed r x₀.tokens) x₀.fault → takes_all s (placing t.byte w (placed r (later_than_first x.tokens))) ≡ takes_all s₀ (placed r x₀.tokens) → (Some (fault_at t.byte e) ≡ stops s₀ (placed r x₀.tokens) x₀.fault) × (s' ≡ takes_all s₀ (placed r x₀.tokens))
       by None a' b' f g = let z : ◌≡◌ {A = ℕ} 0 1 = cc in absurd (omega arith)
@@ -193,6 +202,12 @@ module _ (r : Reading) (s₀ : State) (x₀ : Telling) (s : State) (x : Telling)
             ap (λ o. faulting t.byte o (stops (grown s w) (placed r (later_than_first x.tokens)) x.fault)) (sym why) ∙ f,
             b' ∙ (ap (λ o. unless o (grown s w) s) why ∙ (ap (λ o. grown_by o (takes_all (grown s w) (placed r (later_than_first x.tokens))) s) (sym why) ∙ g)),
           )
+
+  pub going_refused : (s' : State) (f : Fault) → Err f ≡ faulted t.byte (told_answer s (word_of r t.says)) → s' ≡ after_told s (word_of r t.says) → (Some f ≡ stops s₀ (placed r x₀.tokens) x₀.fault) × (s' ≡ takes_all s₀ (placed r x₀.tokens))
+  going_refused s' f a b =
+      let h = faulted_refused t.byte (told_answer s (word_of r t.says)) f a in
+      let there = stopped_there s' h.0 h.1 b in
+      (ap Some h.2 ∙ there.0, there.1)
 
 module _ (r : Reading) (s₀ : State) (x₀ : Telling) (s : State) (x : Telling) (going : Going r s₀ x₀ s x) (none : x.tokens ≡ []) where
   pub going_end : (f : Option Fault) → x.fault ≡ f → (f ≡ stops s₀ (placed r x₀.tokens) x₀.fault) × (s ≡ takes_all s₀ (placed r x₀.tokens))
@@ -217,13 +232,6 @@ opened_fine text x e = by (ltb 65536 (length text)) e
     by : (b : Bool) → Ok x ≡ cond b (Err (fault_at 0 TextTooLong)) (Ok (told None (pieces 0 text))) → x ≡ cond b (stopped TextTooLong 0) (told None (pieces 0 text))
     by true e' = let z : ◌≡◌ {A = ℕ} 0 1 = cc in absurd (omega arith)
     by false e' = cc
-
-pub opened_long : (r : Reading) (text : List ℕ) (f : Fault) → Err f ≡ opening text → (placed r (text_told text).tokens ≡ []) × ((text_told text).fault ≡ Some f)
-opened_long r text f e = by (ltb 65536 (length text)) e
-  where
-    by : (b : Bool) → Err f ≡ cond b (Err (fault_at 0 TextTooLong)) (Ok (told None (pieces 0 text))) → (placed r (cond b (stopped TextTooLong 0) (told None (pieces 0 text))).tokens ≡ []) × ((cond b (stopped TextTooLong 0) (told None (pieces 0 text))).fault ≡ Some f)
-    by true e' = (refl, cc)
-    by false e' = let z : ◌≡◌ {A = ℕ} 0 1 = cc in absurd (omega arith)
 
 -- a reading that comes to its end
 module _ (s t : State) (r : Reading) (text : List ℕ) (x₀ : Telling) (whole : x₀ ≡ text_told text) (after : t ≡ takes_all s (placed r x₀.tokens)) where

@@ -33,31 +33,30 @@ pub data Said : Type 0 where
   listed : Result Listed Refusal → List ℕ → Said  -- with the table
   not_allowed : Said
 
--- What a call answers on a book that was made over the pairs qs and took the words ws: while it takes words, and while it is closed.
--- A call that the book does not allow then is answered by that word, and does nothing.
+-- What a call answers on a book that was made over the pairs qs and took the words ws. A call that the book does not allow as it stands
+-- is answered by that word, and does nothing.
+
+-- the questions that a book answers whether it takes words or is closed
+abbrev pub question_answer : Asked → List Pair → List Word → Said
+question_answer words qs ws = counted (word_count qs ws)
+question_answer tops qs ws = counted (top_count qs ws)
+question_answer (group p) qs ws = told (word_group p qs ws)
+question_answer (start p) qs ws = told (word_start p qs ws)
+question_answer c qs ws = not_allowed
+
+-- while it takes words
 abbrev pub taking_answer : List Pair → ℕ → List Word → Asked → Said
 taking_answer qs room ws (take w) = taken (word_answer qs room ws w)
 taking_answer qs room ws (read r text) = took (reading_answer qs room ws r text)
 taking_answer qs room ws close = done
-taking_answer qs room ws reopen = not_allowed
-taking_answer qs room ws words = counted (word_count qs ws)
-taking_answer qs room ws tops = counted (top_count qs ws)
-taking_answer qs room ws (group p) = told (word_group p qs ws)
-taking_answer qs room ws (start p) = told (word_start p qs ws)
-taking_answer qs room ws repeats = not_allowed
-taking_answer qs room ws (list k table) = not_allowed
+taking_answer qs room ws c = question_answer c qs ws
 
+-- while it is closed
 abbrev pub closed_answer : List Pair → List Word → Asked → Said
-closed_answer qs ws (take w) = not_allowed
-closed_answer qs ws (read r text) = not_allowed
-closed_answer qs ws close = not_allowed
 closed_answer qs ws reopen = done
-closed_answer qs ws words = counted (word_count qs ws)
-closed_answer qs ws tops = counted (top_count qs ws)
-closed_answer qs ws (group p) = told (word_group p qs ws)
-closed_answer qs ws (start p) = told (word_start p qs ws)
 closed_answer qs ws repeats = counted (repeat_count qs ws)
 closed_answer qs ws (list k table) = listed (word_listed k (length table) qs ws) (word_table k table qs ws)
+closed_answer qs ws c = question_answer c qs ws
 
 -- whether the book takes words, before and after a call
 abbrev pub answer_to : List Pair → ℕ → List Word → Bool → Asked → Said
@@ -65,48 +64,24 @@ answer_to qs room ws true c = taking_answer qs room ws c
 answer_to qs room ws false c = closed_answer qs ws c
 
 abbrev pub taking_after : Bool → Asked → Bool
-taking_after b (take w) = b
-taking_after b (read r text) = b
 taking_after b close = false
 taking_after b reopen = true
-taking_after b words = b
-taking_after b tops = b
-taking_after b (group p) = b
-taking_after b (start p) = b
-taking_after b repeats = b
-taking_after b (list k table) = b
+taking_after b c = b
 
 -- The words that a call adds follow from it and its answer: a taking answered adds its word, a reading answered all words of its text,
 -- one stopped at a byte those whose tokens begin before it, and no other call adds any.
 abbrev pub taken_words : Word → Said → List Word
 taken_words w (taken r) = added_by w r
-taken_words w (took r) = []
-taken_words w done = []
-taken_words w (counted n) = []
-taken_words w (told r) = []
-taken_words w (listed r table) = []
-taken_words w not_allowed = []
+taken_words w a = []
 
 abbrev pub read_words : Reading → List ℕ → Said → List Word
-read_words r text (taken x) = []
 read_words r text (took x) = words_added (text_words r text) x
-read_words r text done = []
-read_words r text (counted n) = []
-read_words r text (told x) = []
-read_words r text (listed x table) = []
-read_words r text not_allowed = []
+read_words r text a = []
 
 abbrev pub words_of : Asked → Said → List Word
 words_of (take w) a = taken_words w a
 words_of (read r text) a = read_words r text a
-words_of close a = []
-words_of reopen a = []
-words_of words a = []
-words_of tops a = []
-words_of (group p) a = []
-words_of (start p) a = []
-words_of repeats a = []
-words_of (list k table) a = []
+words_of c a = []
 
 -- the words taken by an arrangement, from its calls and their answers alone
 abbrev pub words_taken : List Asked → List Said → List Word

@@ -11,52 +11,28 @@ use Rattle.book.specs.Passages.{count, size}
 use Rattle.book.specs.Tops as top
 use Rattle.book.specs.Groups.{registered}
 use Rattle.book.specs.Repeats.{◌among◌, first, SamePassage, Listing}
-use Rattle.book.specs.Arrangements.{Asked, take, read, close, reopen, words, tops, group, start, repeats, list, Said, taken, took, done, counted, told, listed, not_allowed, words_of, words_taken, answers}
+use Rattle.book.specs.Arrangements.{Asked, take, group, repeats, list, Said, taken, counted, told, listed, not_allowed, words_of, words_taken, answers}
 
 -- A group number g is given out at position p by the taking of its word, which stands behind the n words taken before,
 -- by a question at p, and by listing a repeat that ends there.
 
 abbrev pub ByTaking : ℕ → Said → ℕ → ℕ → Type 0
 ByTaking n (taken (Ok x)) p g = (p ≡ n) × (g ≡ x.0)
-ByTaking n (taken (Err r)) p g = ⊥
-ByTaking n (took r) p g = ⊥
-ByTaking n done p g = ⊥
-ByTaking n (counted m) p g = ⊥
-ByTaking n (told r) p g = ⊥
-ByTaking n (listed r table) p g = ⊥
-ByTaking n not_allowed p g = ⊥
+ByTaking n a p g = ⊥
 
 abbrev pub ByQuestion : ℕ → Said → ℕ → ℕ → Type 0
-ByQuestion q (taken r) p g = ⊥
-ByQuestion q (took r) p g = ⊥
-ByQuestion q done p g = ⊥
-ByQuestion q (counted m) p g = ⊥
 ByQuestion q (told (Ok h)) p g = (p ≡ q) × (g ≡ h)
-ByQuestion q (told (Err r)) p g = ⊥
-ByQuestion q (listed r table) p g = ⊥
-ByQuestion q not_allowed p g = ⊥
+ByQuestion q a p g = ⊥
 
 abbrev pub ByListing : Said → ℕ → ℕ → Type 0
-ByListing (taken r) p g = ⊥
-ByListing (took r) p g = ⊥
-ByListing done p g = ⊥
-ByListing (counted m) p g = ⊥
-ByListing (told r) p g = ⊥
 ByListing (listed (Ok l) table) p g = (p among list_of.take l.count table) × (g ≡ l.group)
-ByListing (listed (Err r) table) p g = ⊥
-ByListing not_allowed p g = ⊥
+ByListing a p g = ⊥
 
 abbrev pub Gives : ℕ → Asked → Said → ℕ → ℕ → Type 0
 Gives n (take w) a p g = ByTaking n a p g
-Gives n (read r text) a p g = ⊥
-Gives n close a p g = ⊥
-Gives n reopen a p g = ⊥
-Gives n words a p g = ⊥
-Gives n tops a p g = ⊥
 Gives n (group q) a p g = ByQuestion q a p g
-Gives n (start q) a p g = ⊥
-Gives n repeats a p g = ⊥
 Gives n (list k table) a p g = ByListing a p g
+Gives n c a p g = ⊥
 
 -- somewhere in the arrangement, the first call of which finds n words
 abbrev pub GivenOut : ℕ → List Asked → List Said → ℕ → ℕ → Type 0
@@ -73,35 +49,20 @@ pub record Lists (ws : List Word) (es before : List ℕ) (l : Listed) (after : L
   pub size : l.size ≡ size (top.passage_at ws (first es))
 
 abbrev pub OnRepeats : List (List ℕ) → Said → Type 0
-OnRepeats ls (taken r) = ⊥
-OnRepeats ls (took r) = ⊥
-OnRepeats ls done = ⊥
 OnRepeats ls (counted m) = m ≡ length ls
-OnRepeats ls (told r) = ⊥
-OnRepeats ls (listed r table) = ⊥
 OnRepeats ls not_allowed = Unit {0}
+OnRepeats ls a = ⊥
 
 abbrev pub OnList : List Word → List (List ℕ) → ℕ → List ℕ → Said → Type 0
-OnList ws ls k before (taken r) = ⊥
-OnList ws ls k before (took r) = ⊥
-OnList ws ls k before done = ⊥
-OnList ws ls k before (counted m) = ⊥
-OnList ws ls k before (told r) = ⊥
 OnList ws ls k before (listed (Ok l) after) = (k < length ls) × Lists ws (slice_index_or ls k []) before l after
 OnList ws ls k before (listed (Err r) after) = (after ≡ before) × (((r ≡ NoSuchRepeat) × (length ls ≤ k)) ⊎ ((r ≡ TableTooShort) × (k < length ls) × (length before < length (slice_index_or ls k []))))
 OnList ws ls k before not_allowed = Unit {0}
+OnList ws ls k before a = ⊥
 
 abbrev pub TellsRepeats : List Word → List (List ℕ) → Asked → Said → Type 0
-TellsRepeats ws ls (take w) a = Unit {0}
-TellsRepeats ws ls (read r text) a = Unit {0}
-TellsRepeats ws ls close a = Unit {0}
-TellsRepeats ws ls reopen a = Unit {0}
-TellsRepeats ws ls words a = Unit {0}
-TellsRepeats ws ls tops a = Unit {0}
-TellsRepeats ws ls (group q) a = Unit {0}
-TellsRepeats ws ls (start q) a = Unit {0}
 TellsRepeats ws ls repeats a = OnRepeats ls a
 TellsRepeats ws ls (list k table) a = OnList ws ls k table a
+TellsRepeats ws ls c a = Unit {0}
 
 -- At each call: the words taken before it, ws, have a listing, and that is what the call tells of.
 abbrev pub ListedThroughout : List Word → List Asked → List Said → Type 0

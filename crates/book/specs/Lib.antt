@@ -9,6 +9,7 @@ pub mod States
 pub mod Taken
 pub mod Kept
 pub mod Linking
+pub mod Ends
 pub mod Books
 pub mod Readings
 pub mod Questions

@@ -1,5 +1,5 @@
 -- Links: how a closed book leads from each word to the next word of the same group, and what it lists of a repeat. Assumes nothing.
-use Rattle.std.specs.Prelude.{◌≡◌, ℕ, zero, suc, ◌+◌, ◌-◌, ◌<◌, ◌≤◌, cond, ◌&&◌, List, [], ◌∷◌, ◌++◌, length, get_or, drop, Ok, Err, filter, Result, ◌==◌, nat_eq, nat_le, nat_lt, slice_index, slice_index_or}
+use Rattle.std.specs.Prelude.{◌≡◌, ℕ, zero, suc, ◌+◌, ◌-◌, ◌<◌, cond, ◌&&◌, List, [], ◌∷◌, ◌++◌, map, length, get_or, drop, Some, None, Ok, Err, filter, Option, Result, ◌==◌, nat_eq, nat_le, nat_lt, slice_index, slice_index_or}
 use Rattle.std.specs.List.{range_with_len}
 use Rattle.names.specs.declared.refusals.Refusal.{Refusal}
 use Rattle.names.specs.declared.refusals.Refusal.TheVariants.{NoSuchRepeat, TableTooShort}
@@ -27,27 +27,34 @@ later_of es p = first (ends_from (number_at es) (p + 1) (length es) (number_at e
 abbrev pub if_later : List Entry → ℕ → ℕ → ℕ
 if_later es p q = cond (nat_lt p q && (nat_lt q (length es) && number_at es q == number_at es p)) q 0
 
--- each group number is below n
-pub record Numbered (es : List Entry) (n : ℕ) : Type 0 where
-  pub each : (p : ℕ) → p < length es → number_at es p < n
-
--- no passage starts after its end
-pub record Started (es : List Entry) : Type 0 where
-  pub each : (p : ℕ) → p < length es → (get_or es p (entry 0 0)).start ≤ p
-
 -- each position leads to the next one of its group
 pub record Linked (es : List Entry) (later : List ℕ) : Type 0 where
   pub long : length later ≡ length es
   pub each : (p : ℕ) → p < length es → slice_index later p ≡ later_of es p
 
+-- what a closed book has found: where each position leads, and the first end of each repeat
+pub record Indexed (es : List Entry) (later firsts : List ℕ) : Type 0 where
+  pub linked : Linked es later
+  pub listed : firsts ≡ map first (repeats_of es)
+
 -- the table has, for each group that occurs, the first position of it
 pub record Opened (es : List Entry) (table : List ℕ) : Type 0 where
   pub each : (p : ℕ) → p < length es → slice_index table (number_at es p) ≡ first (ends (number_at es) (length es) (number_at es p))
 
--- the positions that m links lead through, from p on
-abbrev pub along : List ℕ → ℕ → ℕ → List ℕ
-along later p zero = []
-along later p (suc m) = p ∷ along later (slice_index later p) m
+-- the position that the link from p leads to, if it comes after p
+abbrev pub next_along : List ℕ → ℕ → Option ℕ
+next_along later p = cond (nat_lt p (slice_index later p)) (Some (slice_index later p)) None
+
+-- the positions that at most n links lead through, from one on
+abbrev pub walk : ℕ → List ℕ → Option ℕ → List ℕ
+walk zero later None = []
+walk zero later (Some p) = p ∷ []
+walk (suc n) later None = []
+walk (suc n) later (Some p) = p ∷ walk n later (next_along later p)
+
+-- the positions that the links lead through from p on, of which there are no more than links
+abbrev pub along : List ℕ → ℕ → List ℕ
+along later p = walk (length later) later (Some p)
 
 -- What is listed of a repeat: the group, the size of each of its passages, and how many ends it has.
 

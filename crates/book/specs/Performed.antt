@@ -1,13 +1,13 @@
--- One call on a book in one of its two states. Assumes nothing.
-use Rattle.std.specs.Prelude.{◌≡◌, ℕ, Bool, true, false, List, ◌++◌}
+-- One call on a book in one of its two stages. Assumes nothing.
+use Rattle.std.specs.Prelude.{◌≡◌, Bool, true, false, List, ◌++◌}
 use Rattle.registers.specs.declared.meaning.Register.{Ghosts}
 use Rattle.registers.specs.declared.pairs.Pair.{Pair}
-use Rattle.book.specs.declared.arrangement.Book.{Book}
-use Rattle.book.specs.declared.arrangement.Book.TheVariants.{Taking, Closed}
+use Rattle.book.specs.declared.arrangement.AnyBook.{AnyBook}
+use Rattle.book.specs.declared.arrangement.AnyBook.TheVariants.{Taking, Closed}
 use Rattle.book.specs.Words.{Word}
 use Rattle.book.specs.States.{State}
 use Rattle.book.specs.Taken.{Holds}
-use Rattle.book.specs.Books.{taking_state, closed_state}
+use Rattle.book.specs.Books.{held}
 use Rattle.book.specs.Arrangements.{Asked, Said, answer_to, taking_after, words_of}
 
 -- what a book holds, and whether it takes words
@@ -18,10 +18,9 @@ pub record Stand : Type 0 where
 abbrev pub standing : State → Bool → Stand
 standing s b = record { held = s; taking = b }
 
-module _ {R : Type 0} {g : Ghosts R} (pairs : R → List Pair) (room : R → ℕ) where
-  abbrev pub stand_of : Book R g → Stand
-  stand_of (Taking b) = standing (taking_state pairs room b) true
-  stand_of (Closed b) = standing (closed_state pairs room b) false
+abbrev pub stand_of : {R : Type 0} {g : Ghosts R} → AnyBook R g → Stand
+stand_of (Taking b) = standing (held b) true
+stand_of (Closed b) = standing (held b) false
 
 -- A call leads from one stand to another, with its answer, whatever pairs the book was made over and whatever words it took.
 pub record Performs (s t : Stand) (c : Asked) (a : Said) : Type 0 where

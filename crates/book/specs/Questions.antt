@@ -14,7 +14,7 @@ use Rattle.book.specs.States.{State}
 use Rattle.book.specs.Taken.{Holds}
 
 -- an answer about a position, if that is below the words
-abbrev pub at_position : ℕ → ℕ → ℕ → Result ℕ Refusal
+abbrev pub at_position : {X : Type 0} → ℕ → ℕ → X → Result X Refusal
 at_position words p answer = cond (nat_lt p words) (Ok answer) (Err NoSuchPosition)
 
 abbrev pub group_answer : State → ℕ → Result ℕ Refusal

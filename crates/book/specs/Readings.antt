@@ -90,6 +90,11 @@ abbrev pub told_answer : State → Option Word → Result (Option (ℕ × ℕ)) 
 told_answer s None = Ok None
 told_answer s (Some w) = told_as (take_answer s w)
 
+-- a refusal with the byte of its token
+abbrev pub faulted : {X : Type 0} → ℕ → Result X Refusal → Result X Fault
+faulted at (Ok x) = Ok x
+faulted at (Err r) = Err (fault_at at r)
+
 abbrev pub after_told : State → Option Word → State
 after_told s None = s
 after_told s (Some w) = after_take s w

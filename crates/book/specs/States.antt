@@ -1,5 +1,5 @@
 -- What a book holds, and what taking a word does to it. Assumes nothing.
-use Rattle.std.specs.Prelude.{ℕ, ◌+◌, ◌-◌, cond, List, [], ◌∷◌, ◌++◌, length, take, drop, Some, None, Ok, Err, Option, Result, nat_le, nat_lt}
+use Rattle.std.specs.Prelude.{◌≡◌, ℕ, ◌+◌, ◌-◌, cond, List, [], ◌∷◌, ◌++◌, length, take, drop, Some, None, Ok, Err, Option, Result, nat_le, nat_lt}
 use Rattle.names.specs.declared.refusals.Refusal.{Refusal}
 use Rattle.names.specs.declared.refusals.Refusal.TheVariants.{RankAboveTops, BookFull, RegisterFull}
 use Rattle.registers.specs.declared.pairs.Pair.{Pair}
@@ -33,6 +33,11 @@ refusal tops words free w = cond (nat_lt tops w.rank) (Some RankAboveTops) (cond
 abbrev pub refused : State → Word → Option Refusal
 refused s w = refusal (length s.tops) (length s.entries) (s.room - length s.pairs) w
 
+-- that a word may be taken, or the refusal
+abbrev pub allowed : Option Refusal → Result (Unit {0}) Refusal
+allowed None = Ok tt
+allowed (Some r) = Err r
+
 -- the top passages that the word takes as its children
 abbrev pub children : State → Word → List Entry
 children s w = drop (length s.tops - w.rank) s.tops
@@ -65,3 +70,8 @@ take_answer s w = answered (refused s w) (taken s w)
 
 unfoldable pub after_take : State → Word → State
 after_take s w = unless (refused s w) (grown s w) s
+
+-- the answer to taking a word, and what the book holds then
+pub record Took (s t : State) (w : Word) (r : Result (ℕ × ℕ) Refusal) : Type 0 where
+  pub answer : r ≡ take_answer s w
+  pub after : t ≡ after_take s w

@@ -1,58 +1,58 @@
 // Arrangements of calls: performed one after another on one book.
 ghost use Rattle.std.specs.Prelude.{◌≡◌, true, false, map, MatchResult};
-ghost use Rattle.book.specs.Books.{taking_state, closed_state};
+ghost use Rattle.book.specs.Books.{held};
+ghost use Rattle.book.specs.Questions.{Tells};
+ghost use Rattle.book.specs.Arrangements.{question_answer};
 ghost use Rattle.book.specs.Calls.{asked, said};
 ghost use Rattle.book.specs.Performed.{standing, stand_of, Performs};
 ghost use Rattle.book.specs.Law.{Law};
 
-use crate::books::{ClosedBook, TakingBook};
+use crate::books::{Book, ClosedBook, Stage, TakingBook};
 use crate::calls::{Answer, Call};
 use crate::words::Takable;
 use registers::Register;
 use std::alloc::Global;
 
-// A book in one of its two states.
-pub(crate) enum Book<R: Register> {
+// A book in one of its two stages.
+pub(crate) enum AnyBook<R: Register> {
     Taking(TakingBook<R>),
     Closed(ClosedBook<R>),
+}
+
+// A question that a book answers in either stage. Any other call is not allowed here.
+fn ask<R: Register, S: Stage, N: Takable>(book: &Book<R, S>, question: &Call<N>) -> Answer
+    ensures { Tells (held book.now) (said result) (question_answer (asked N.says question.now)) }
+{
+    match question {
+        Call::Words => Answer::Counted(book.words()),
+        Call::Tops => Answer::Counted(book.tops()),
+        Call::Group(position) => Answer::Told(book.group(*position)),
+        Call::Start(position) => Answer::Told(book.start(*position)),
+        _ => Answer::NotAllowed,
+    }
 }
 
 // One call on a book that takes words.
 fn perform_taking<R: Register, N: Takable + Drop>(
     mut book: TakingBook<R>,
     call: Call<N>,
-) -> (Book<R>, Answer)
-    ensures { Performs (standing (taking_state R.pairs R.room book) true) (stand_of R.pairs R.room result.0) (asked N.says call.entry) (said result.1) }
+) -> (AnyBook<R>, Answer)
+    ensures { Performs (standing (held book) true) (stand_of result.0) (asked N.says call.entry) (said result.1) }
 {
     match call {
         Call::Take(word) => {
             let taken = word.take_into(&mut book);
-            (Book::Taking(book), Answer::Taken(taken))
+            (AnyBook::Taking(book), Answer::Taken(taken))
         }
         Call::Read(reading, text) => {
             let took = book.read(reading, text);
-            (Book::Taking(book), Answer::Took(took))
+            (AnyBook::Taking(book), Answer::Took(took))
         }
-        Call::Close => (Book::Closed(book.close()), Answer::Done),
-        Call::Words => {
-            let count = book.words();
-            (Book::Taking(book), Answer::Counted(count))
+        Call::Close => (AnyBook::Closed(book.close()), Answer::Done),
+        question => {
+            let answer = ask(&book, &question);
+            (AnyBook::Taking(book), answer)
         }
-        Call::Tops => {
-            let count = book.tops();
-            (Book::Taking(book), Answer::Counted(count))
-        }
-        Call::Group(position) => {
-            let told = book.group(position);
-            (Book::Taking(book), Answer::Told(told))
-        }
-        Call::Start(position) => {
-            let told = book.start(position);
-            (Book::Taking(book), Answer::Told(told))
-        }
-        Call::Reopen => (Book::Taking(book), Answer::NotAllowed),
-        Call::Repeats => (Book::Taking(book), Answer::NotAllowed),
-        Call::List(_, _) => (Book::Taking(book), Answer::NotAllowed),
     }
 }
 
@@ -60,59 +60,44 @@ fn perform_taking<R: Register, N: Takable + Drop>(
 fn perform_closed<R: Register, N: Takable + Drop>(
     book: ClosedBook<R>,
     call: Call<N>,
-) -> (Book<R>, Answer)
-    ensures { Performs (standing (closed_state R.pairs R.room book) false) (stand_of R.pairs R.room result.0) (asked N.says call.entry) (said result.1) }
+) -> (AnyBook<R>, Answer)
+    ensures { Performs (standing (held book) false) (stand_of result.0) (asked N.says call.entry) (said result.1) }
 {
     match call {
-        Call::Reopen => (Book::Taking(book.reopen()), Answer::Done),
-        Call::Words => {
-            let count = book.words();
-            (Book::Closed(book), Answer::Counted(count))
-        }
-        Call::Tops => {
-            let count = book.tops();
-            (Book::Closed(book), Answer::Counted(count))
-        }
-        Call::Group(position) => {
-            let told = book.group(position);
-            (Book::Closed(book), Answer::Told(told))
-        }
-        Call::Start(position) => {
-            let told = book.start(position);
-            (Book::Closed(book), Answer::Told(told))
-        }
+        Call::Reopen => (AnyBook::Taking(book.reopen()), Answer::Done),
         Call::Repeats => {
             let count = book.repeats();
-            (Book::Closed(book), Answer::Counted(count))
+            (AnyBook::Closed(book), Answer::Counted(count))
         }
         Call::List(k, mut table) => {
             let listed = book.list(k, table.as_mut_slice());
-            (Book::Closed(book), Answer::Listed(listed, table))
+            (AnyBook::Closed(book), Answer::Listed(listed, table))
         }
-        Call::Take(_) => (Book::Closed(book), Answer::NotAllowed),
-        Call::Read(_, _) => (Book::Closed(book), Answer::NotAllowed),
-        Call::Close => (Book::Closed(book), Answer::NotAllowed),
+        question => {
+            let answer = ask(&book, &question);
+            (AnyBook::Closed(book), answer)
+        }
     }
 }
 
-// One call on a book in either state.
-fn perform<R: Register, N: Takable + Drop>(book: Book<R>, call: Call<N>) -> (Book<R>, Answer)
-    ensures { Performs (stand_of R.pairs R.room book) (stand_of R.pairs R.room result.0) (asked N.says call.entry) (said result.1) }
+// One call on a book in either stage.
+fn perform<R: Register, N: Takable + Drop>(book: AnyBook<R>, call: Call<N>) -> (AnyBook<R>, Answer)
+    ensures { Performs (stand_of book) (stand_of result.0) (asked N.says call.entry) (said result.1) }
 {
     match book {
-        Book::Taking(taking) => perform_taking(taking, call),
-        Book::Closed(closed) => perform_closed(closed, call),
+        AnyBook::Taking(taking) => perform_taking(taking, call),
+        AnyBook::Closed(closed) => perform_closed(closed, call),
     }
 }
 
-impl<R: Register> Book<R> {
+impl<R: Register> AnyBook<R> {
     fn into_register(self) -> R
-        ensures pairs { R.pairs result ≡ (stand_of R.pairs R.room self).held.pairs }
-        ensures room { R.room result ≡ (stand_of R.pairs R.room self).held.room }
+        ensures pairs { R.pairs result ≡ (stand_of self).held.pairs }
+        ensures room { R.room result ≡ (stand_of self).held.room }
     {
         match self {
-            Book::Taking(taking) => taking.close().into_register(),
-            Book::Closed(closed) => closed.into_register(),
+            AnyBook::Taking(taking) => taking.close().into_register(),
+            AnyBook::Closed(closed) => closed.into_register(),
         }
     }
 }
@@ -129,10 +114,7 @@ pub fn perform_all<R: Register, N: Takable + Copy + Drop>(
     let Ok(mut answers) = Vec::with_capacity(heap, calls.len()) else {
         return Err(register);
     };
-    let mut book = match TakingBook::new(heap, register) {
-        Ok(taking) => Book::Taking(taking),
-        Err(register) => return Err(register),
-    };
+    let mut book = AnyBook::Taking(TakingBook::new(heap, register)?);
     for call in calls {
         let (next, answer) = perform(book, call);
         book = next;

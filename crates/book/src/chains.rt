@@ -29,9 +29,9 @@ fn enter_spelling<R: Register, L: Label>(register: &mut R, number: u32, label: &
     ensures enters { Enters (R.pairs register.old) number (L.spelling label.now) (R.pairs register.new) result }
     ensures same { R.room register.new ≡ R.room register.old }
 {
-    let mut number = enter(register, number, L::kind_number() as u32);
+    let mut number = enter(register, number, u32::from(L::kind_number()));
     for place in 1..label.spelled_len() {
-        number = enter(register, number, label.spelled_at(place) as u32);
+        number = enter(register, number, u32::from(label.spelled_at(place)));
     }
     number
 }
@@ -61,8 +61,8 @@ pub(crate) fn number_word<R: Register, L: Label>(
     ensures same { R.room register.new ≡ R.room register.old }
     ensures low { result ≤ 32768 }
 {
-    let ranked = enter(register, 0, rank as u32);
-    let sized = enter(register, ranked, label.spelled_len() as u32);
+    let ranked = enter(register, 0, u32::from(rank));
+    let sized = enter(register, ranked, u32::from(label.spelled_len()));
     let spelled = enter_spelling(register, sized, label);
     enter_children(register, spelled, children)
 }

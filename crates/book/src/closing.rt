@@ -1,102 +1,84 @@
 // Making a book, closing it and opening it again.
-ghost use Rattle.std.specs.Prelude.{◌≡◌, [], IfOk, MatchResult};
+ghost use Rattle.std.specs.Prelude.{◌≡◌, ◌≤◌, [], IfOk, MatchResult, vec_capacity};
 ghost use Rattle.book.specs.States.{fresh};
 ghost use Rattle.book.specs.Taken.{Holds};
-ghost use Rattle.book.specs.Books.{taking_state, closed_state};
+ghost use Rattle.book.specs.Books.{held};
 ghost use Rattle.book.specs.PassageLaws.{PassageLaws};
 
-use crate::books::{ClosedBook, Index, MOST_WORDS, TakingBook};
-use crate::linking::link_repeats;
-use registers::{MOST_PAIRS, Register};
+use crate::books::{Book, Closed, ClosedBook, Taking, TakingBook};
+use crate::entries::{Entries, Entry, MOST_WORDS};
+use crate::linking::Index;
+use registers::Register;
 use std::alloc::{AllocError, Global};
 
-impl Index {
-    fn new(heap: Global) -> Result<Index, AllocError> {
-        let latest = vec![in heap; 0; MOST_PAIRS + 1]?;
-        let later = Vec::with_capacity(heap, MOST_WORDS)?;
-        let firsts = Vec::with_capacity(heap, MOST_WORDS)?;
-        Ok(Index {
-            latest,
-            later,
-            firsts,
-        })
-    }
+// The memory of a book: for its words, its top passages, and their repeats.
+fn reserve(heap: Global) -> Result<(Entries, Vec<Entry>, Index), AllocError>
+    ensures words { IfOk result (λ m. m.0 ≡ []) }
+    ensures tops { IfOk result (λ m. m.1.items ≡ []) }
+    ensures room { IfOk result (λ m. 4096 ≤ vec_capacity m.1) }
+{
+    let entries = Entries::new(heap)?;
+    let tops = Vec::with_capacity(heap, MOST_WORDS)?;
+    let index = Index::new(heap)?;
+    Ok((entries, tops, index))
 }
 
-impl<R: Register> TakingBook<R> {
+impl<R: Register> Book<R, Taking> {
     // A book without words over the register, which is handed back where memory is wanting.
     pub fn new(heap: Global, register: R) -> Result<TakingBook<R>, R>
-        ensures value { MatchResult result (λ b. taking_state R.pairs R.room b ≡ fresh (R.pairs register) (R.room register)) (λ back. back ≡ register) }
+        ensures value { MatchResult result (λ b. held b ≡ fresh (R.pairs register) (R.room register)) (λ back. back ≡ register) }
         ensures laws { PassageLaws }
-        ensures holds { IfOk result (λ b. Holds (R.pairs register) [] (taking_state R.pairs R.room b)) }
+        ensures holds { IfOk result (λ b. Holds (R.pairs register) [] (held b)) }
     {
-        let Ok(entries) = Vec::with_capacity(heap, MOST_WORDS) else {
+        let Ok((entries, tops, index)) = reserve(heap) else {
             return Err(register);
         };
-        let Ok(tops) = Vec::with_capacity(heap, MOST_WORDS) else {
-            return Err(register);
-        };
-        let Ok(index) = Index::new(heap) else {
-            return Err(register);
-        };
-        Ok(TakingBook {
+        Ok(Book {
             register,
             entries,
             tops,
-            index,
+            stage: Taking { index },
         })
     }
 
     // Closes the book: one pass links its words, one gathers its repeats.
     pub fn close(self) -> ClosedBook<R>
-        ensures { closed_state R.pairs R.room result ≡ taking_state R.pairs R.room self }
+        ensures { held result ≡ held self }
     {
-        let TakingBook {
+        let Book {
             register,
             entries,
             tops,
-            index,
+            stage,
         } = self;
-        let Index {
-            mut latest,
-            mut later,
-            mut firsts,
-        } = index;
-        link_repeats(
-            entries.as_slice(),
-            latest.as_mut_slice(),
-            &mut later,
-            &mut firsts,
-        );
-        ClosedBook {
+        let Taking { mut index } = stage;
+        index.link(&entries);
+        Book {
             register,
             entries,
             tops,
-            index: Index {
-                latest,
-                later,
-                firsts,
-            },
+            stage: Closed { index },
         }
     }
 }
 
-impl<R: Register> ClosedBook<R> {
+impl<R: Register> Book<R, Closed> {
     // Opens the book again, to take more words.
     pub fn reopen(self) -> TakingBook<R>
-        ensures { taking_state R.pairs R.room result ≡ closed_state R.pairs R.room self }
+        ensures { held result ≡ held self }
     {
-        let ClosedBook {
+        let Book {
             register,
             entries,
             tops,
-            index,
+            stage,
         } = self;
-        TakingBook {
+        let Closed { index } = stage;
+        Book {
             register,
             entries,
             tops,
-            index,
+            stage: Taking { index },
         }
     }
 
@@ -104,11 +86,11 @@ impl<R: Register> ClosedBook<R> {
     pub fn into_register(self) -> R
         ensures { result ≡ self.register }
     {
-        let ClosedBook {
+        let Book {
             register,
             entries: _,
             tops: _,
-            index: _,
+            stage: _,
         } = self;
         register
     }

@@ -7,6 +7,7 @@ mod books;
 mod calls;
 mod chains;
 mod closing;
+mod ends;
 mod entries;
 mod linking;
 mod questions;
@@ -16,9 +17,10 @@ mod taking;
 mod words;
 
 pub use arrangement::perform_all;
-pub use books::{ClosedBook, MOST_WORDS, TakingBook};
+pub use books::{Book, Closed, ClosedBook, Stage, Taking, TakingBook};
 pub use calls::{Answer, Call};
 // The kinds of label, which stand in a crate of their own.
+pub use entries::MOST_WORDS;
 pub use labels::{
     Bare, FrameLabel, Label, RestLabel, SoundingNote, SyllableLabel, WrittenNote, kind_of,
     same_label,

@@ -1,14 +1,12 @@
 // Questions to a book, and the listing of a closed one.
-ghost use Rattle.std.specs.Prelude.{◌≡◌, ◌≤◌, length, slice_index_or};
-ghost use Rattle.book.specs.Entries.{entry};
+ghost use Rattle.std.specs.Prelude.{◌≡◌, ◌≤◌, length};
 ghost use Rattle.book.specs.States.{State};
 ghost use Rattle.book.specs.Linking.{repeats_of, listed_answer, listed_table};
-ghost use Rattle.book.specs.Questions.{at_position, group_answer, start_answer, word_count, top_count, word_group, word_start, repeat_count, word_listed, word_table, Tells};
-ghost use Rattle.book.specs.Books.{taking_state, closed_state};
+ghost use Rattle.book.specs.Questions.{group_answer, start_answer, word_count, top_count, word_group, word_start, repeat_count, word_listed, word_table, Tells};
+ghost use Rattle.book.specs.Books.{held};
 
-use crate::books::{ClosedBook, TakingBook};
-use crate::entries::Entry;
-use crate::linking::{Listed, list_repeat};
+use crate::books::{Book, Closed, Stage};
+use crate::linking::Listed;
 use names::Refusal;
 use registers::Register;
 
@@ -20,116 +18,63 @@ fn count<T>(items: &[T]) -> u32
     items.len() as u32
 }
 
-fn group_at(entries: &[Entry], position: u32) -> Result<u32, Refusal>
-    ensures { result ≡ at_position (length entries.now) position (slice_index_or entries.now position (entry 0 0)).group }
-{
-    let at = position as usize;
-    if at < entries.len() {
-        Ok(entries[at].group)
-    } else {
-        Err(Refusal::NoSuchPosition)
-    }
-}
-
-fn start_at(entries: &[Entry], position: u32) -> Result<u32, Refusal>
-    ensures { result ≡ at_position (length entries.now) position (slice_index_or entries.now position (entry 0 0)).start }
-{
-    let at = position as usize;
-    if at < entries.len() {
-        Ok(entries[at].start)
-    } else {
-        Err(Refusal::NoSuchPosition)
-    }
-}
-
-impl<R: Register> TakingBook<R> {
+// In either stage.
+impl<R: Register, S: Stage> Book<R, S> {
     // How many words it has taken.
+    #[tactic(auto, using(crate::proofs::Asking::tells_words))]
     pub fn words(&self) -> u32
-        ensures value { result ≡ length (taking_state R.pairs R.room self.now).entries }
-        ensures tells { Tells (taking_state R.pairs R.room self.now) result word_count }
+        ensures value { result ≡ length (held self.now).entries }
+        ensures tells { Tells (held self.now) result word_count }
     {
         count(self.entries.as_slice())
     }
 
     // How many top passages these make.
+    #[tactic(auto, using(crate::proofs::Asking::tells_tops))]
     pub fn tops(&self) -> u32
-        ensures value { result ≡ length (taking_state R.pairs R.room self.now).tops }
-        ensures tells { Tells (taking_state R.pairs R.room self.now) result top_count }
+        ensures value { result ≡ length (held self.now).tops }
+        ensures tells { Tells (held self.now) result top_count }
     {
         count(self.tops.as_slice())
     }
 
     // The group number of the passage that ends at the position.
+    #[tactic(auto, using(crate::proofs::Asking::tells_group))]
     pub fn group(&self, position: u32) -> Result<u32, Refusal>
-        ensures value { result ≡ group_answer (taking_state R.pairs R.room self.now) position }
-        ensures tells { Tells (taking_state R.pairs R.room self.now) result (word_group position) }
+        ensures value { result ≡ group_answer (held self.now) position }
+        ensures tells { Tells (held self.now) result (word_group position) }
     {
-        group_at(self.entries.as_slice(), position)
+        Ok(self.entries.at(position)?.group)
     }
 
     // The position of that passage's first leaf.
+    #[tactic(auto, using(crate::proofs::Asking::tells_start))]
     pub fn start(&self, position: u32) -> Result<u32, Refusal>
-        ensures value { result ≡ start_answer (taking_state R.pairs R.room self.now) position }
-        ensures tells { Tells (taking_state R.pairs R.room self.now) result (word_start position) }
+        ensures value { result ≡ start_answer (held self.now) position }
+        ensures tells { Tells (held self.now) result (word_start position) }
     {
-        start_at(self.entries.as_slice(), position)
+        Ok(self.entries.at(position)?.start)
     }
 }
 
-impl<R: Register> ClosedBook<R> {
-    // How many words it has taken.
-    pub fn words(&self) -> u32
-        ensures value { result ≡ length (closed_state R.pairs R.room self.now).entries }
-        ensures tells { Tells (closed_state R.pairs R.room self.now) result word_count }
-    {
-        count(self.entries.as_slice())
-    }
-
-    // How many top passages these make.
-    pub fn tops(&self) -> u32
-        ensures value { result ≡ length (closed_state R.pairs R.room self.now).tops }
-        ensures tells { Tells (closed_state R.pairs R.room self.now) result top_count }
-    {
-        count(self.tops.as_slice())
-    }
-
-    // The group number of the passage that ends at the position.
-    pub fn group(&self, position: u32) -> Result<u32, Refusal>
-        ensures value { result ≡ group_answer (closed_state R.pairs R.room self.now) position }
-        ensures tells { Tells (closed_state R.pairs R.room self.now) result (word_group position) }
-    {
-        group_at(self.entries.as_slice(), position)
-    }
-
-    // The position of that passage's first leaf.
-    pub fn start(&self, position: u32) -> Result<u32, Refusal>
-        ensures value { result ≡ start_answer (closed_state R.pairs R.room self.now) position }
-        ensures tells { Tells (closed_state R.pairs R.room self.now) result (word_start position) }
-    {
-        start_at(self.entries.as_slice(), position)
-    }
-
+impl<R: Register> Book<R, Closed> {
     // How many repeats there are.
+    #[tactic(auto, using(crate::proofs::Asking::tells_repeats, crate::proofs::Asking::count_repeats))]
     pub fn repeats(&self) -> u32
-        ensures value { result ≡ length (repeats_of (closed_state R.pairs R.room self.now).entries) }
-        ensures tells { Tells (closed_state R.pairs R.room self.now) result repeat_count }
+        ensures value { result ≡ length (repeats_of (held self.now).entries) }
+        ensures tells { Tells (held self.now) result repeat_count }
     {
-        count(self.index.firsts.as_slice())
+        count(self.stage.index.firsts.as_slice())
     }
 
     // Lists repeat k: its group number, its size and the count of its ends, all of which the table then begins with, rising.
+    #[tactic(auto, using(crate::proofs::Asking::tells_listed, crate::proofs::Asking::tells_table))]
     pub fn list(&self, k: u32, table: &mut [u32]) -> Result<Listed, Refusal>
-        ensures answer { result ≡ listed_answer (closed_state R.pairs R.room self.now).entries k (length table.old) }
-        ensures table { table.new ≡ listed_table (closed_state R.pairs R.room self.now).entries k table.old }
-        ensures lists { Tells (closed_state R.pairs R.room self.now) result (word_listed k (length table.old)) }
-        ensures fills { Tells (closed_state R.pairs R.room self.now) table.new (word_table k table.old) }
+        ensures answer { result ≡ listed_answer (held self.now).entries k (length table.old) }
+        ensures table { table.new ≡ listed_table (held self.now).entries k table.old }
+        ensures lists { Tells (held self.now) result (word_listed k (length table.old)) }
+        ensures fills { Tells (held self.now) table.new (word_table k table.old) }
     {
-        list_repeat(
-            self.entries.as_slice(),
-            self.index.later.as_slice(),
-            self.index.firsts.as_slice(),
-            k,
-            table,
-        )
+        self.stage.index.list(&self.entries, k, table)
     }
 }

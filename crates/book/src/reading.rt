@@ -3,105 +3,86 @@ ghost use Rattle.std.specs.Prelude.{◌≡◌, ◌≤◌, true, length, None};
 ghost use Rattle.names.specs.Tokens.{malformed, syllabled, sung, lasting};
 ghost use Rattle.labels.specs.Spellings.{rest_spelling, syllable_spelling};
 ghost use Rattle.names.specs.Heard.{said};
-ghost use Rattle.names.specs.Lines.{is_word};
 ghost use Rattle.book.specs.Words.{word};
-ghost use Rattle.book.specs.States.{take_answer, after_take};
-ghost use Rattle.book.specs.Readings.{spelled_in, note_in, word_of, told_as, told_answer, after_told, read_answer, after_read, Reads};
-ghost use Rattle.book.specs.Books.{taking_state};
+ghost use Rattle.book.specs.States.{Took};
+ghost use Rattle.book.specs.Readings.{spelled_in, note_in, word_of, told_answer, faulted, after_told, read_answer, after_read, Reads};
+ghost use Rattle.book.specs.Books.{held};
 
-use crate::books::TakingBook;
+use crate::books::{Book, Taking};
 use crate::readings::Reading;
 use labels::{Bare, FrameLabel, Label, RestLabel, SoundingNote, SyllableLabel, WrittenNote};
-use names::{Fault, Pitch, Reader, Refusal, Token};
+use names::{Fault, Note, Placed, Reader, Refusal, Token};
 use registers::Register;
 
-impl<R: Register> TakingBook<R> {
+impl<R: Register> Book<R, Taking> {
     // Takes the words of a text in turn, up to the first fault, and tells how many they are.
     pub fn read(&mut self, reading: Reading, text: &[u8]) -> Result<u32, Fault>
-        ensures answer { result ≡ read_answer (taking_state R.pairs R.room self.old) reading text.now }
-        ensures after { taking_state R.pairs R.room self.new ≡ after_read (taking_state R.pairs R.room self.old) reading text.now }
-        ensures reads { Reads (taking_state R.pairs R.room self.old) (taking_state R.pairs R.room self.new) reading text.now result }
+        ensures answer { result ≡ read_answer (held self.old) reading text.now }
+        ensures after { held self.new ≡ after_read (held self.old) reading text.now }
+        ensures reads { Reads (held self.old) (held self.new) reading text.now result }
     {
-        let before = self.entries.len();
+        let before = self.words();
         let mut reader = Reader::over(text)?;
         while let Some(placed) = reader.next_token()? {
-            match self.take_token(reading, &placed.token) {
-                Ok(_) => {}
-                Err(refusal) => {
-                    return Err(Fault {
-                        refusal,
-                        byte: placed.byte,
-                    });
-                }
-            }
+            self.take_placed(reading, &placed)?;
         }
-        Ok((self.entries.len() - before) as u32)
+        Ok(self.words() - before)
+    }
+
+    // Takes the word that a token tells, if it tells one, or says at which byte it is refused.
+    fn take_placed(
+        &mut self,
+        reading: Reading,
+        placed: &Placed,
+    ) -> Result<Option<(u32, u32)>, Fault>
+        requires { malformed (said placed.now.token) ≡ None }
+        ensures answer { result ≡ faulted placed.now.byte (told_answer (held self.old) (word_of reading (said placed.now.token))) }
+        ensures after { held self.new ≡ after_told (held self.old) (word_of reading (said placed.now.token)) }
+    {
+        let byte = placed.byte;
+        self.take_token(reading, &placed.token)
+            .map_err(|refusal| Fault { refusal, byte })
     }
 
     // Takes the word that a token tells, if it tells one.
     fn take_token(&mut self, reading: Reading, token: &Token) -> Result<Option<(u32, u32)>, Refusal>
         requires { malformed (said token.now) ≡ None }
-        ensures answer { result ≡ told_answer (taking_state R.pairs R.room self.old) (word_of reading (said token.now)) }
-        ensures after { taking_state R.pairs R.room self.new ≡ after_told (taking_state R.pairs R.room self.old) (word_of reading (said token.now)) }
-    {
-        if let Token::Naming(_) = token {
-            return Ok(None);
-        }
-        let (group, start) = self.take_word(reading, token)?;
-        Ok(Some((group, start)))
-    }
-
-    // Takes the word that a token tells which is no naming word.
-    fn take_word(&mut self, reading: Reading, token: &Token) -> Result<(u32, u32), Refusal>
-        requires formed { malformed (said token.now) ≡ None }
-        requires word { is_word (said token.now) ≡ true }
-        ensures answer { told_as result ≡ told_answer (taking_state R.pairs R.room self.old) (word_of reading (said token.now)) }
-        ensures after { taking_state R.pairs R.room self.new ≡ after_told (taking_state R.pairs R.room self.old) (word_of reading (said token.now)) }
+        ensures answer { result ≡ told_answer (held self.old) (word_of reading (said token.now)) }
+        ensures after { held self.new ≡ after_told (held self.old) (word_of reading (said token.now)) }
     {
         match token {
-            Token::Naming(_) => unreachable(),
-            Token::Syllable(bytes) => self.take_syllable(reading, bytes),
-            Token::Note(note) => self.take_note(reading, note.pitch, note.octave, note.length),
-            Token::Rest { length } => self.take_rest(reading, *length),
-            Token::Frame { keyword, rank } => {
-                self.take_as(reading, &FrameLabel::new(*keyword), *rank)
-            }
+            Token::Naming(_) => Ok(None),
+            Token::Syllable(bytes) => self.take_syllable(reading, bytes).map(Some),
+            Token::Note(note) => self.take_note(reading, note).map(Some),
+            Token::Rest { length } => self.take_rest(reading, *length).map(Some),
+            Token::Frame { keyword, rank } => self
+                .take_as(reading, &FrameLabel::new(*keyword), *rank)
+                .map(Some),
         }
     }
 
     // Takes a syllable, which borrows its bytes from the text.
     fn take_syllable(&mut self, reading: Reading, bytes: &[u8]) -> Result<(u32, u32), Refusal>
         requires { syllabled bytes.now ≡ true }
-        ensures answer { result ≡ take_answer (taking_state R.pairs R.room self.old) (word 0 (spelled_in reading (syllable_spelling bytes.now))) }
-        ensures after { taking_state R.pairs R.room self.new ≡ after_take (taking_state R.pairs R.room self.old) (word 0 (spelled_in reading (syllable_spelling bytes.now))) }
+        ensures { Took (held self.old) (held self.new) (word 0 (spelled_in reading (syllable_spelling bytes.now))) result }
     {
-        match SyllableLabel::new(bytes) {
-            Some(label) => self.take_as(reading, &label, 0),
-            None => unreachable(),
-        }
+        self.take_as(reading, &SyllableLabel::new(bytes).unwrap(), 0)
     }
 
     // Takes a note as it is written, as it sounds, or bare.
-    fn take_note(
-        &mut self,
-        reading: Reading,
-        pitch: Pitch,
-        octave: u8,
-        length: u8,
-    ) -> Result<(u32, u32), Refusal>
-        requires { sung octave length ≡ true }
-        ensures answer { result ≡ take_answer (taking_state R.pairs R.room self.old) (word 0 (note_in reading pitch octave length)) }
-        ensures after { taking_state R.pairs R.room self.new ≡ after_take (taking_state R.pairs R.room self.old) (word 0 (note_in reading pitch octave length)) }
+    fn take_note(&mut self, reading: Reading, note: &Note) -> Result<(u32, u32), Refusal>
+        requires { sung note.now.octave note.now.length ≡ true }
+        ensures { Took (held self.old) (held self.new) (word 0 (note_in reading note.now.pitch note.now.octave note.now.length)) result }
     {
+        let Note {
+            pitch,
+            octave,
+            length,
+            ..
+        } = *note;
         match reading {
-            Reading::Written => match WrittenNote::new(pitch, octave, length) {
-                Some(note) => self.take(&note, 0),
-                None => unreachable(),
-            },
-            Reading::Sounding => match SoundingNote::new(pitch, octave, length) {
-                Some(note) => self.take(&note, 0),
-                None => unreachable(),
-            },
+            Reading::Written => self.take(&WrittenNote::new(pitch, octave, length).unwrap(), 0),
+            Reading::Sounding => self.take(&SoundingNote::new(pitch, octave, length).unwrap(), 0),
             Reading::Bare => self.take(&Bare, 0),
         }
     }
@@ -109,13 +90,9 @@ impl<R: Register> TakingBook<R> {
     // Takes a rest.
     fn take_rest(&mut self, reading: Reading, length: u8) -> Result<(u32, u32), Refusal>
         requires { lasting length ≡ true }
-        ensures answer { result ≡ take_answer (taking_state R.pairs R.room self.old) (word 0 (spelled_in reading (rest_spelling length))) }
-        ensures after { taking_state R.pairs R.room self.new ≡ after_take (taking_state R.pairs R.room self.old) (word 0 (spelled_in reading (rest_spelling length))) }
+        ensures { Took (held self.old) (held self.new) (word 0 (spelled_in reading (rest_spelling length))) result }
     {
-        match RestLabel::new(length) {
-            Some(rest) => self.take_as(reading, &rest, 0),
-            None => unreachable(),
-        }
+        self.take_as(reading, &RestLabel::new(length).unwrap(), 0)
     }
 
     // Takes a word with its label, or with none where the reading is bare.
@@ -125,8 +102,7 @@ impl<R: Register> TakingBook<R> {
         label: &L,
         rank: u8,
     ) -> Result<(u32, u32), Refusal>
-        ensures answer { result ≡ take_answer (taking_state R.pairs R.room self.old) (word rank (spelled_in reading (L.spelling label.now))) }
-        ensures after { taking_state R.pairs R.room self.new ≡ after_take (taking_state R.pairs R.room self.old) (word rank (spelled_in reading (L.spelling label.now))) }
+        ensures { Took (held self.old) (held self.new) (word rank (spelled_in reading (L.spelling label.now))) result }
     {
         match reading {
             Reading::Bare => self.take(&Bare, rank),

@@ -3,7 +3,7 @@ ghost use Rattle.std.specs.Prelude.{◌≡◌};
 ghost use Rattle.book.specs.Words.{Word, word};
 ghost use Rattle.book.specs.States.{take_answer, after_take};
 ghost use Rattle.book.specs.Taken.{Takes};
-ghost use Rattle.book.specs.Books.{taking_state};
+ghost use Rattle.book.specs.Books.{held};
 ghost use Rattle.book.specs.declared.words.Either.TheVariants.{First, Second};
 
 use crate::books::TakingBook;
@@ -18,9 +18,9 @@ pub trait Takable {
 
     // Takes the word into a book.
     fn take_into<R: Register>(&self, book: &mut TakingBook<R>) -> Result<(u32, u32), Refusal>
-        ensures answer { result ≡ take_answer (taking_state R.pairs R.room book.old) (says self.now) }
-        ensures after { taking_state R.pairs R.room book.new ≡ after_take (taking_state R.pairs R.room book.old) (says self.now) }
-        ensures takes { Takes (taking_state R.pairs R.room book.old) (taking_state R.pairs R.room book.new) (says self.now) result };
+        ensures answer { result ≡ take_answer (held book.old) (says self.now) }
+        ensures after { held book.new ≡ after_take (held book.old) (says self.now) }
+        ensures takes { Takes (held book.old) (held book.new) (says self.now) result };
 }
 
 // A label and a rank.
@@ -39,6 +39,7 @@ impl<L: Label> Takable for Node<L> {
 }
 
 // A word of one kind or of another, so that one arrangement of calls can have words of any kinds.
+// Callers name the variants `First` and `Second`; the kit's `either` has others, and methods that no word needs.
 #[derive(Clone, Copy, Drop)]
 pub enum Either<A, B> {
     First(A),

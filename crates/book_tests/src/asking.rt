@@ -26,7 +26,7 @@ pub enum Said {
     Took(u32),
     Done,
     Told(u32),
-    // The refusal's number, and for a reading the byte.
+    // The refusal's number in the list that callers print, and for a reading the byte.
     Refused(u8),
     Stopped(u8, usize),
     NotAllowed,
@@ -66,11 +66,7 @@ fn calls_of<'a>(
     heap: Global,
     asked: &[Asked<'a>],
 ) -> Result<Vec<Call<'a, Node<Bare>>>, AllocError> {
-    let mut calls = Vec::new(heap);
-    for one in asked {
-        calls.push(call_of(*one))?;
-    }
-    Ok(calls)
+    asked.iter().map(|one| call_of(*one)).collect(heap)
 }
 
 // Performs the calls on a book over the register, which comes back where the answers are the wanted ones.
@@ -82,13 +78,11 @@ pub fn answered<R: Register + Drop>(
     wanted: &[Said],
 ) -> Result<R, Fail> {
     let calls = calls_of(heap, asked)?;
-    match perform_all(heap, register, calls) {
-        Ok((register, answers)) => {
-            compare(rt, answers.as_slice(), wanted);
-            Ok(register)
-        }
-        Err(_register) => Err(Fail::new("there is not enough memory")),
-    }
+    let Ok((register, answers)) = perform_all(heap, register, calls) else {
+        return Err(Fail::new("there is not enough memory"));
+    };
+    compare(rt, answers.as_slice(), wanted);
+    Ok(register)
 }
 
 fn compare(rt: &impl Abort, answers: &[Answer], wanted: &[Said]) {
@@ -120,13 +114,4 @@ pub fn both(
     let _rows = answered(rt, heap, rows(heap, places)?, asked, wanted)?;
     let _buckets = answered(rt, heap, buckets(heap, places)?, asked, wanted)?;
     Ok(())
-}
-
-// The bytes so many times.
-pub fn many(heap: Global, bytes: &[u8], times: usize) -> Result<Vec<u8>, AllocError> {
-    let mut text = Vec::new(heap);
-    for _ in 0..times {
-        text.extend_from_slice(bytes)?;
-    }
-    Ok(text)
 }

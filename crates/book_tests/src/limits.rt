@@ -1,6 +1,6 @@
 // Each limit, and one past it.
 use crate::asking::Asked::*;
-use crate::asking::{Said, both, many};
+use crate::asking::{Said, both};
 use book::Reading;
 use std::test::Fail;
 
@@ -9,7 +9,7 @@ const NOTE: &[u8] = b"german H3/4";
 #[test]
 fn words(rt: HostRuntime) -> Result<(), Fail> {
     let heap = rt.alloc();
-    let text = many(heap, b"r/1 ", 4_095)?;
+    let text = b"r/1 ".repeat(heap, 4_095)?;
     both(
         &rt,
         heap,
@@ -48,7 +48,7 @@ fn places(rt: HostRuntime) -> Result<(), Fail> {
 #[test]
 fn ranks(rt: HostRuntime) -> Result<(), Fail> {
     let heap = rt.alloc();
-    let text = many(heap, b"bar:0 ", 255)?;
+    let text = b"bar:0 ".repeat(heap, 255)?;
     both(
         &rt,
         heap,

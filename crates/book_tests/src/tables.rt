@@ -17,10 +17,7 @@ fn listed(heap: Global, places: usize) -> Result<Answer, Fail> {
     let Ok((_register, mut answers)) = perform_all(heap, buckets(heap, 100)?, calls) else {
         return Err(Fail::new("there is not enough memory"));
     };
-    match answers.pop() {
-        Some(answer) => Ok(answer),
-        None => Err(Fail::new("there is no answer")),
-    }
+    answers.pop().ok_or_else(|| Fail::new("there is no answer"))
 }
 
 // The table has the ends, and beyond them it is as it was.

@@ -4,14 +4,8 @@ use Rattle.std.specs.Vec.Iter.{into_iter_items}
 use Rattle.book.specs.Calls.{asked, said}
 use Rattle.book.specs.States.{State}
 use Rattle.book.specs.Performed.{standing}
-use Rattle.book.proofs.Lawful.{going_from, going_more, going_end}
+use Rattle.book.proofs.Lawful.{going_more, going_end}
 use Rattle.book.proofs.arrangement.perform_all.Goals as goal
-
-pub loop-call-init : goal.loop-call-init
-loop-call-init g c =
-    let v = c.in-Ok.ensures in
-    let items = ap length c.into_iter-call-iterator.ensures.into_iter_gives.0 in
-    (tt, tt, going_from _ _ _ _ c.in-Ok-new.ensures.value c.in-Ok-new.ensures.holds (ap (map said) v.items), omega (arith, items, v.len, v.capacity, c.len.ensures, c.args.calls.ok.0))
 
 pub loop-call-preserved : goal.loop-call-preserved
 loop-call-preserved g c =
@@ -24,13 +18,10 @@ loop-call-preserved g c =
       omega (arith, ap length items, push.len, push.capacity, i.3),
     )
 
-pub push_reserved-requires : goal.push_reserved-requires
-push_reserved-requires g c = omega (arith, ap length c.in-Some.ensures.steps.0, c.loop-call.invariant.3)
-
 pub returns : goal.returns
 returns g c =
     let i = c.loop-call.invariant in
-    let new = c.in-Ok-new.ensures.value in
+    let new = c.in_ok-new.ensures.value in
     let over = nil_from_length (into_iter_items c.loop-call.call-iterator) (omega (arith, c.in-None.ensures.steps.0, c.loop-call.call-iterator.rest.ok)) in
     let calls = c.into_iter-call-iterator.ensures.into_iter_gives.0 in
     let end = going_end _ _ _ _ _ _ _ _ (ap (λ (s : State). standing s true) new) i.2 (ap (map (asked g.N.Takable.says)) over) c.into_register.ensures.pairs in

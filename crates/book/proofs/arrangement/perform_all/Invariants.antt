@@ -9,6 +9,6 @@ abbrev pub invariant-loop-call : goal.invariant-loop-call
 invariant-loop-call g l =
     (goal.iterator-loop-call g).can_next l.call-iterator ×
     (goal.iterator-loop-call g).is_finite l.call-iterator ×
-    Going (stand_of g.R.Register.pairs g.R.Register.room l.initial.book) (map (asked g.N.Takable.says) (into_iter_items l.initial.call-iterator))
-    (stand_of g.R.Register.pairs g.R.Register.room l.book) (map (asked g.N.Takable.says) (into_iter_items l.call-iterator)) (map said (vec_items l.answers)) ×
+    Going (stand_of l.initial.book) (map (asked g.N.Takable.says) (into_iter_items l.initial.call-iterator))
+    (stand_of l.book) (map (asked g.N.Takable.says) (into_iter_items l.call-iterator)) (map said (vec_items l.answers)) ×
     (vec_len l.answers + length (into_iter_items l.call-iterator) ≤ vec_capacity l.answers)

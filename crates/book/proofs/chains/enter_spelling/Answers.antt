@@ -10,20 +10,12 @@ loop-place-init g c =
     let k = g.L.Label.spells c.args.label.now in
     along_none _ _ _ _ (omega (arith, c.requires, e.same, l, k.some, length-drop 1 (g.L.Label.spelling c.args.label.now)))
 
-pub enter-number-requires : goal.enter-number-requires
-enter-number-requires g c = let k = g.L.Label.spells c.args.label.now in omega (arith, c.requires, k.some)
-
-pub enter-number-requires-in-loop-place : goal.enter-number-requires-in-loop-place
-enter-number-requires-in-loop-place g c =
-    let i = c.loop-place.invariant in
-    omega (arith, i.fits, i.same, c.loop-place-test.true, c.loop-place.auto.place, length-drop 1 (g.L.Label.spelling c.args.label.now))
-
 pub loop-place-preserved : goal.loop-place-preserved
 loop-place-preserved g c =
     let s = c.enter-number-in-loop-place.ensures in
     let sp = g.L.Label.spelling c.args.label.now in
     let at : 1 + (c.loop-place.place - 1) ≡ c.loop-place.place = omega (arith, c.loop-place.auto.place) in
-    along_more c.loop-place.invariant (omega (arith, c.loop-place-test.true, c.loop-place.auto.place, length-drop 1 sp)) (c.spelled_at.ensures ∙ (ap (λ p. get_or sp p 0) (sym at) ∙ sym (get_or-drop 1 sp (c.loop-place.place - 1) 0))) (omega (arith, c.loop-place.auto.place)) s.after s.answer s.same
+    along_more c.loop-place.invariant (omega (arith, c.loop-place-test.true, c.loop-place.auto.place, length-drop 1 sp)) (c.from-in-loop-place.ensures ∙ c.spelled_at.ensures ∙ (ap (λ p. get_or sp p 0) (sym at) ∙ sym (get_or-drop 1 sp (c.loop-place.place - 1) 0))) (omega (arith, c.loop-place.auto.place)) s.after s.answer s.same
 
 pub returns : goal.returns
 returns g c =
@@ -32,7 +24,7 @@ returns g c =
     let sp = g.L.Label.spelling c.args.label.now in
     let k = g.L.Label.spells c.args.label.now in
     let one = enters_one e.after e.answer in
-    let kind = c.kind_number.ensures ∙ sym k.begins in
+    let kind = c.from.ensures ∙ (c.kind_number.ensures ∙ sym k.begins) in
     record {
       enters = enters_first k.some (rw kind at one) (along_all i (omega (arith, c.loop-place-test.false, length-drop 1 sp)));
       same = i.same ∙ e.same;

@@ -26,8 +26,9 @@ returns g c =
     let b = c.enter-sized.ensures in
     let d = c.enter_spelling-spelled.ensures in
     let e = c.enter_children.ensures in
+    let one = enters_one a.after a.answer in
     let two = enters_one b.after b.answer in
-    let all = enters_append (enters_one a.after a.answer) (enters_append (rw c.spelled_len.ensures at two) (enters_append d.enters e.enters)) in
+    let all = enters_append (rw c.from.ensures at one) (enters_append (rw (c.from-2.ensures ∙ c.spelled_len.ensures) at two) (enters_append d.enters e.enters)) in
     let sound = g.R.Register.sound c.enter_children.new.register in
     record {
       enters = all;
