@@ -3,12 +3,12 @@ ghost use Rattle.std.specs.Prelude.{◌≡◌};
 ghost use Rattle.numbers_text.specs.Typed.{pair_typed};
 
 use registers::Pair;
-use typed::{read_number, space_at};
+use typed::{read_number, find_space};
 
 pub fn read_pair(text: &[u8]) -> Option<Pair>
     ensures { result ≡ pair_typed text.now }
 {
-    let space = space_at(text)?;
+    let space = find_space(text)?;
     let first = read_number(&text[..space])?;
     let second = read_number(&text[space + 1..])?;
     Some(Pair { first, second })

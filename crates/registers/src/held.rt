@@ -3,7 +3,8 @@ ghost use Rattle.std.specs.Prelude.{◌≡◌, ◌≤◌, vec_len};
 
 use crate::meaning::MOST_PAIRS;
 
-// The first `count` places of the table are held; what stands behind them does not matter.
+// The first `count` places of the table are held; what stands behind them does not matter. The count stands beside the
+// table, since the caller's table has a fixed length and comes back whole.
 #[derive(Drop)]
 pub(crate) struct Held<T> {
     table: Vec<T>,

@@ -50,5 +50,11 @@ pub fn side_by_side<L: Register, R: Register>(
 {
     let n = number_all(left, asked, left_given);
     let m = number_all(right, asked, right_given);
-    left_given[..n] == right_given[..m]
+    same_answers(&left_given[..n], &right_given[..m])
+}
+
+fn same_answers(left: &[Option<u32>], right: &[Option<u32>]) -> bool
+    ensures { result ≡ same_numbers left.now right.now }
+{
+    left == right
 }

@@ -1,8 +1,8 @@
 // Words and numbers as they are typed on a line, with one space between them.
 #![tactic(auto)]
 
-ghost use Rattle.std.specs.Prelude.{◌≡◌, ◌<◌, IfSome, length, position, ◌==◌};
-ghost use Rattle.typed.specs.Typed.{with_digit, number_typed, first_word, behind};
+ghost use Rattle.std.specs.Prelude.{◌≡◌, ◌<◌, ◌≤◌, IfSome, length, position, ◌==◌};
+ghost use Rattle.typed.specs.Typed.{with_digit, number_typed, space_place, first_word, behind};
 
 // The number so far with one more digit, or none where the byte is no digit or the number would not fit.
 fn with_digit(number: u32, byte: u8) -> Option<u32>
@@ -26,8 +26,16 @@ pub fn read_number(text: &[u8]) -> Option<u32>
     Some(number)
 }
 
-// The place of the first space.
-pub fn space_at(text: &[u8]) -> Option<usize>
+// The place of the first space, or the length where there is none.
+pub fn space_at(text: &[u8]) -> usize
+    ensures value { result ≡ space_place text.now }
+    ensures within { result ≤ length text.now }
+{
+    text.iter().take_while(|byte| **byte != b' ').count()
+}
+
+// The place of the first space, if there is one.
+pub fn find_space(text: &[u8]) -> Option<usize>
     ensures value { result ≡ position (λ c. c == 32) text.now }
     ensures within { IfSome result (λ i. i < length text.now) }
 {
@@ -39,7 +47,7 @@ pub fn cut(text: &[u8]) -> (&[u8], &[u8])
     ensures word { result.0.now ≡ first_word text.now }
     ensures rest { result.1.now ≡ behind text.now }
 {
-    match space_at(text) {
+    match find_space(text) {
         Some(space) => (&text[..space], &text[space + 1..]),
         None => (text, &[]),
     }
