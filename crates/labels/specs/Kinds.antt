@@ -74,8 +74,8 @@ bytes_small (b ∷ bs) h = let l : b < 256 = h 0 in (omega arith, bytes_small bs
 
 pub syllable_spells : (bs : List ℕ) → syllabic bs ≡ true → ((i : ℕ) → slice_index bs i < 256) → Spells 3 31 (syllable_spelling bs)
 syllable_spells bs s h =
-    let p = and_parts _ _ s in
-    let l = leb-true (length bs) 30 p.1 in
+    let p = and_parts (nat_le 1 (length bs)) (nat_le (length bs) 30) s in
+    let l : length bs ≤ 30 = leb-true (length bs) 30 p.1 in
     record { begins = refl; some = omega arith; within = omega arith; most = omega arith; small = (omega arith, bytes_small bs h) }
 
 pub frame_spells : (k : Keyword) → Spells 4 2 (frame_spelling k)
