@@ -48,15 +48,19 @@ keyword_small Bass1 = omega arith
 keyword_small Bass2 = omega arith
 keyword_small Organ = omega arith
 
-lasting_small : (lasts : ℕ) → lasting lasts ≡ true → lasts ≤ 64
-lasting_small lasts l = leb-true lasts 64 (and_parts (nat_le 1 lasts) (nat_le lasts 64) l).1
+-- a length, and an octave, is a byte
 
-sung_small : (octave lasts : ℕ) → sung octave lasts ≡ true → (octave ≤ 9) × (lasts ≤ 64)
-sung_small octave lasts s = let p = and_parts (nat_le octave 9) (lasting lasts) s in (leb-true octave 9 p.0, lasting_small lasts p.1)
+pub length_small : (lasts : ℕ) → lasting lasts ≡ true → lasts ≤ 255
+length_small lasts l = let h = leb-true lasts 64 (and_parts (nat_le 1 lasts) (nat_le lasts 64) l).1 in omega arith
 
-pub written_spells : (p : Pitch) (octave lasts : ℕ) → sung octave lasts ≡ true → Spells 1 5 (written_spelling p octave lasts)
-written_spells p octave lasts s =
-    let l = sung_small octave lasts s in
+pub sung_small : (octave lasts : ℕ) → sung octave lasts ≡ true → (octave ≤ 255) × (lasts ≤ 255)
+sung_small octave lasts s =
+    let p = and_parts (nat_le octave 9) (lasting lasts) s in
+    let h = leb-true octave 9 p.0 in
+    (omega arith, length_small lasts p.1)
+
+pub written_spells : (p : Pitch) (octave lasts : ℕ) → (octave ≤ 255) × (lasts ≤ 255) → Spells 1 5 (written_spelling p octave lasts)
+written_spells p octave lasts (o, l) =
     record {
       begins = refl;
       some = omega arith;
@@ -65,23 +69,24 @@ written_spells p octave lasts s =
       small = (omega arith, (step_small p.step, (raised_small p.alteration, (omega arith, (omega arith, tt)))));
     }
 
-pub rest_spells : (lasts : ℕ) → lasting lasts ≡ true → Spells 2 2 (rest_spelling lasts)
-rest_spells lasts l = let h = lasting_small lasts l in record { begins = refl; some = omega arith; within = omega arith; most = omega arith; small = (omega arith, (omega arith, tt)) }
+pub rest_spells : (lasts : ℕ) → lasts ≤ 255 → Spells 2 2 (rest_spelling lasts)
+rest_spells lasts h = record { begins = refl; some = omega arith; within = omega arith; most = omega arith; small = (omega arith, (omega arith, tt)) }
 
 bytes_small : (bs : List ℕ) → ((i : ℕ) → slice_index bs i < 256) → AllByRecursion (λ n. n < 65536) bs
 bytes_small [] h = tt
 bytes_small (b ∷ bs) h = let l : b < 256 = h 0 in (omega arith, bytes_small bs (λ i. h (suc i)))
 
-pub syllable_spells : (bs : List ℕ) → syllabic bs ≡ true → ((i : ℕ) → slice_index bs i < 256) → Spells 3 31 (syllable_spelling bs)
-syllable_spells bs s h =
-    let p = and_parts (nat_le 1 (length bs)) (nat_le (length bs) 30) s in
-    let l : length bs ≤ 30 = leb-true (length bs) 30 p.1 in
-    record { begins = refl; some = omega arith; within = omega arith; most = omega arith; small = (omega arith, bytes_small bs h) }
+pub syllable_short : (bs : List ℕ) → syllabic bs ≡ true → length bs ≤ 30
+syllable_short bs s = leb-true (length bs) 30 (and_parts (nat_le 1 (length bs)) (nat_le (length bs) 30) s).1
+
+pub syllable_spells : (bs : List ℕ) → length bs ≤ 30 → ((i : ℕ) → slice_index bs i < 256) → Spells 3 31 (syllable_spelling bs)
+syllable_spells bs l h = record { begins = refl; some = omega arith; within = omega arith; most = omega arith; small = (omega arith, bytes_small bs h) }
 
 pub frame_spells : (k : Keyword) → Spells 4 2 (frame_spelling k)
 frame_spells k = record { begins = refl; some = omega arith; within = omega arith; most = omega arith; small = (omega arith, (keyword_small k, tt)) }
 
-pub sounding_spells : (sounds lasts : ℕ) → sounds ≤ 123 → lasting lasts ≡ true → Spells 5 3 (sounding_spelling sounds lasts)
-sounding_spells sounds lasts low l =
-    let h = lasting_small lasts l in
-    record { begins = refl; some = omega arith; within = omega arith; most = omega arith; small = (omega arith, (omega arith, (omega arith, tt))) }
+pub sounding_spells : (sounds lasts : ℕ) → sounds ≤ 255 → lasts ≤ 255 → Spells 5 3 (sounding_spelling sounds lasts)
+sounding_spells sounds lasts s l = record { begins = refl; some = omega arith; within = omega arith; most = omega arith; small = (omega arith, (omega arith, (omega arith, tt))) }
+
+pub raised_low : (sounds : ℕ) → sounds ≤ 123 → sounds ≤ 255
+raised_low sounds h = omega arith

@@ -3,7 +3,7 @@ ghost use Rattle.std.specs.Prelude.{◌≡◌, true};
 ghost use Rattle.names.specs.Tokens.{lasting};
 ghost use Rattle.std.specs.Option.{option_map};
 ghost use Rattle.labels.specs.Spellings.{rest_spelling, rest_made};
-ghost use Rattle.labels.specs.Kinds.{rest_spells};
+ghost use Rattle.labels.specs.Kinds.{length_small, rest_spells};
 
 use crate::labels::Label;
 use names::is_length;
@@ -38,7 +38,7 @@ impl Label for RestLabel {
 
     ghost spelling = { λ n. rest_spelling n.length };
 
-    ghost spells = { λ n. rest_spells n.length n.lasting };
+    ghost spells = { λ n. rest_spells n.length (length_small n.length n.lasting) };
 
     fn kind_number() -> u16 {
         Self::KIND

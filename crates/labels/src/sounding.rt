@@ -3,7 +3,7 @@ ghost use Rattle.std.specs.Prelude.{◌≡◌, ◌≤◌, true};
 ghost use Rattle.names.specs.Tokens.{lasting};
 ghost use Rattle.std.specs.Option.{option_map};
 ghost use Rattle.labels.specs.Spellings.{half_tones, sounding, sounding_spelling, sounding_made};
-ghost use Rattle.labels.specs.Kinds.{sounding_spells};
+ghost use Rattle.labels.specs.Kinds.{length_small, raised_low, sounding_spells};
 
 use crate::labels::Label;
 use names::{Pitch, Step, is_sung};
@@ -60,7 +60,7 @@ impl Label for SoundingNote {
 
     ghost spelling = { λ n. sounding_spelling n.sounds n.length };
 
-    ghost spells = { λ n. sounding_spells n.sounds n.length n.low n.lasting };
+    ghost spells = { λ n. sounding_spells n.sounds n.length (raised_low n.sounds n.low) (length_small n.length n.lasting) };
 
     fn kind_number() -> u16 {
         Self::KIND

@@ -2,7 +2,7 @@
 ghost use Rattle.std.specs.Prelude.{◌≡◌, ℕ, ◌<◌, true, slice_index};
 ghost use Rattle.std.specs.Option.{option_map};
 ghost use Rattle.labels.specs.Spellings.{syllable_spelling, syllabic, syllable_made};
-ghost use Rattle.labels.specs.Kinds.{syllable_spells};
+ghost use Rattle.labels.specs.Kinds.{syllable_short, syllable_spells};
 
 use crate::labels::Label;
 
@@ -55,7 +55,7 @@ impl<'a> Label for SyllableLabel<'a> {
 
     ghost spelling = { λ s. syllable_spelling s.bytes.now };
 
-    ghost spells = { λ s. syllable_spells s.bytes.now s.syllabic s.small };
+    ghost spells = { λ s. syllable_spells s.bytes.now (syllable_short s.bytes.now s.syllabic) s.small };
 
     fn kind_number() -> u16
         ensures { result ≡ 3 }

@@ -3,7 +3,7 @@ ghost use Rattle.std.specs.Prelude.{◌≡◌, true};
 ghost use Rattle.names.specs.Tokens.{sung};
 ghost use Rattle.std.specs.Option.{option_map};
 ghost use Rattle.labels.specs.Spellings.{written_spelling, written_made};
-ghost use Rattle.labels.specs.Kinds.{written_spells};
+ghost use Rattle.labels.specs.Kinds.{sung_small, written_spells};
 
 use crate::labels::Label;
 use names::{Pitch, is_sung};
@@ -43,7 +43,7 @@ impl Label for WrittenNote {
 
     ghost spelling = { λ n. written_spelling n.pitch n.octave n.length };
 
-    ghost spells = { λ n. written_spells n.pitch n.octave n.length n.sung };
+    ghost spells = { λ n. written_spells n.pitch n.octave n.length (sung_small n.octave n.length n.sung) };
 
     fn kind_number() -> u16 {
         Self::KIND
