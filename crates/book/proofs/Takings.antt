@@ -121,7 +121,3 @@ fresh_is qs room es ts a b = cc
 pub fresh_holds : (qs : List Pair) (room : ℕ) (s : State) → s ≡ fresh qs room → Holds qs [] s
 unfolding entries_of
 fresh_holds qs room s e = rw e (record { formed = tt; is = refl })
-
--- a taking of a word that is spelled otherwise
-pub took_as : (s : State) {t : State} {v w : Word} {r : Result (ℕ × ℕ) Refusal} → r ≡ take_answer s v → t ≡ after_take s v → v ≡ w → (r ≡ take_answer s w) × (t ≡ after_take s w)
-took_as s a b e = (a ∙ ap (take_answer s) e, b ∙ ap (after_take s) e)
