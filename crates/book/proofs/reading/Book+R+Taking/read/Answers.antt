@@ -2,7 +2,7 @@ use Rattle.std.proofs.Common.{◌≡◌, ◌-◌, ◌∷◌, length, drop, Some,
 use Rattle.std.proofs.lemmas.Result.{err_from_is_err_and}
 use Rattle.names.specs.declared.refusals.Fault.{Fault}
 use Rattle.names.specs.Reader.{unread, told_of_placed, told_next}
-use Rattle.names.specs.Texts.{Telling, pieces, text_told, later_than_first}
+use Rattle.names.specs.Texts.{pieces, text_told, later_than_first}
 use Rattle.names.proofs.Lines.{told_formed}
 use Rattle.book.specs.Books.{held}
 use Rattle.book.specs.Readings.{placed, text_words, stops, takes_all}
@@ -38,9 +38,6 @@ pub loop-placed-preserved : goal.loop-placed-preserved
 loop-placed-preserved g c =
     let took = c.in_ok-take_placed.ensures in
     going_more _ _ _ _ (unread c.loop-placed.reader) (told_of_placed c.in-Some.placed) c.loop-placed.invariant (first g (goal.at.loop-placed-preserved g c).In-Some) _ _ c.in_ok-take_placed.field-0 took.answer took.after c.next_token.ensures.left
-
-pub loop-placed-smaller : goal.loop-placed-smaller
-loop-placed-smaller g c = omega (arith, ap length (first g (goal.at.loop-placed-smaller g c).In-Some), ap (λ (y : Telling). length y.tokens) c.next_token.ensures.left)
 
 pub returns-in_err-placed : goal.returns-in_err-placed
 returns-in_err-placed g c =
