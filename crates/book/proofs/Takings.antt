@@ -28,10 +28,6 @@ module _ (tops words free : ℕ) (w : Word) where
   unfolding refusal
   refused_room a b c = cond-false _ _ _ (le-ltb _ _ a) ∙ (cond-false _ _ _ (lt-leb _ _ b) ∙ cond-true _ _ _ (lt-ltb _ _ c))
 
-  pub refused_not : w.rank ≤ tops → words < 4096 → needs w ≤ free → refusal tops words free w ≡ None
-  unfolding refusal
-  refused_not a b c = cond-false _ _ _ (le-ltb _ _ a) ∙ (cond-false _ _ _ (lt-leb _ _ b) ∙ cond-false _ _ _ (le-ltb _ _ c))
-
   pub not_refused : refusal tops words free w ≡ None → (w.rank ≤ tops) × (words < 4096) × (needs w ≤ free)
   not_refused e =
       let a : w.rank ≤ tops = ⊎_elim (λ h. let f = refused_rank h in let z : ◌≡◌ {A = ℕ} 0 1 = cc in absurd (omega arith)) (λ h. h) (cases_lt tops w.rank) in
