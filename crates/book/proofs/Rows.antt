@@ -40,11 +40,6 @@ without_last_in_order (suc n) (row ▹ t) h =
 pub groups_last : (qs : List Pair) (n : ℕ) (row : Row) → n ≤ count row → groups qs (last n row) ≡ drop (count row - n) (groups qs row)
 groups_last qs n row h = simp groups_in_order (ap (map (group qs)) (last_in_order n row h) ∙ sym (drop-map (group qs) (count row - n) (in_order row)))
 
--- every passage of the words, in the order of their ends
-abbrev pub passages : Row → List Word → List Passage
-passages row [] = []
-passages row (w ∷ ws) = made row w ∷ passages (push row w) ws
-
 -- Where each passage of a row starts.
 abbrev pub starts : Row → List ℕ
 starts none = []
