@@ -32,9 +32,6 @@ pub record Going (s₀ : Stand) (cs : List Asked) (s : Stand) (rest : List Asked
   pub replies : given ++ answers_on s₀.held.pairs s₀.held.room sofar s.taking rest ≡ answers_on s₀.held.pairs s₀.held.room [] s₀.taking cs
   pub gained : sofar ++ words_taken rest (answers_on s₀.held.pairs s₀.held.room sofar s.taking rest) ≡ words_taken cs (answers_on s₀.held.pairs s₀.held.room [] s₀.taking cs)
 
-pub going_start : (s : Stand) (cs : List Asked) → Holds s.held.pairs [] s.held → Going s cs s cs []
-going_start s cs h = record { sofar = []; holds = h; room = refl; replies = refl; gained = refl }
-
 pub going_more : (s₀ : Stand) (cs : List Asked) (s t : Stand) (rest later : List Asked) (given more : List Said) (c : Asked) (a : Said) →
     Going s₀ cs s rest given → rest ≡ c ∷ later → more ≡ given ++ a ∷ [] → Performs s t c a → Going s₀ cs t later more
 going_more s₀ cs s t rest later given more c a g first pushed p =

@@ -3,26 +3,15 @@ use Rattle.std.proofs.Common.{◌≡◌, ℕ, ◌+◌, ◌<◌, ◌≤◌, ◌&&
 use Rattle.std.proofs.lemmas.List.{length-set, get_or-set_same, get_or-set_other}
 use Rattle.std.proofs.lemmas.Bool.{cases_eq, cases_Bool, cond-true, cond-false, eq-eqb, lt-ltb, eqb-true, ltb-true, and_from, and_parts}
 use Rattle.book.specs.declared.entries.Entry.{Entry}
-use Rattle.book.specs.Repeats.{first, ends}
-use Rattle.book.specs.Linking.{number_at, ends_from, later_of, if_later, Linked, Opened}
-use Rattle.book.proofs.LinkingEnds.{from_start, from_here, from_next, cases_from}
+use Rattle.book.specs.Repeats.{first}
+use Rattle.book.specs.Linking.{number_at, ends_from, later_of, if_later}
+use Rattle.book.proofs.LinkingEnds.{from_here, from_next, cases_from}
 
 -- The words from p on are linked, and the table has the first position from p on of each group that occurs there.
 pub record Back (es : List Entry) (p : ℕ) (table later : List ℕ) : Type 0 where
   pub long : length later ≡ length es
   pub linked : (q : ℕ) → p ≤ q → q < length es → get_or later q 0 ≡ later_of es q
   pub opened : (q : ℕ) → p ≤ q → q < length es → get_or table (number_at es q) 0 ≡ first (ends_from (number_at es) p (length es) (number_at es q))
-
-pub back_none : (es : List Entry) (table later : List ℕ) → length later ≡ length es → Back es (length es) table later
-back_none es table later e = record { long = e; linked = λ q a b. absurd (omega arith); opened = λ q a b. absurd (omega arith) }
-
-pub back_all : (es : List Entry) (p : ℕ) (table later : List ℕ) → p ≤ 0 → Back es p table later → Linked es later × Opened es table
-back_all es p table later z b =
-    let e : p ≡ 0 = omega arith in
-    let f : (q : ℕ) → ends_from (number_at es) p (length es) (number_at es q) ≡ ends (number_at es) (length es) (number_at es q) = λ q. rw e (sym (from_start (number_at es) (length es) (number_at es q))) in (
-      record { long = b.long; each = λ q l. b.linked q (omega arith) l },
-      record { each = λ q l. b.opened q (omega arith) l ∙ ap first (f q) },
-    )
 
 module _ (es : List Entry) (p : ℕ) (table later : List ℕ) (b : Back es (p + 1) table later) where
   -- A value that was in the table before counts for nothing: no later position has the group.

@@ -1,7 +1,7 @@
 -- Taking a word, said of the words. Assumes nothing.
-use Rattle.std.proofs.Common.{◌≡◌, ℕ, ◌-◌, ◌<◌, ◌≤◌, List, [], ◌∷◌, ◌++◌, length, take, drop, Some, None, Ok, Err, Option, Result, sym, refl, ap, ◌∙◌, ⊎_elim, arith}
+use Rattle.std.proofs.Common.{◌≡◌, ℕ, ◌-◌, ◌<◌, ◌≤◌, List, [], ◌∷◌, ◌++◌, length, Some, None, Ok, Err, Option, Result, sym, refl, ap, ◌∙◌, ⊎_elim, arith}
 use Rattle.std.proofs.lemmas.Bool.{cond-true, cond-false, lt-ltb, le-ltb, le-leb, lt-leb, cases_lt}
-use Rattle.std.proofs.lemmas.List.{append-nil, take_rest}
+use Rattle.std.proofs.lemmas.List.{append-nil}
 use Rattle.names.specs.declared.refusals.Refusal.{Refusal}
 use Rattle.names.specs.declared.refusals.Refusal.TheVariants.{RankAboveTops, BookFull, RegisterFull}
 use Rattle.registers.specs.declared.pairs.Pair.{Pair}
@@ -9,11 +9,10 @@ use Rattle.book.specs.Words.{Word}
 use Rattle.book.specs.Passages.{none, count}
 use Rattle.book.specs.Tops.{tops}
 use Rattle.book.specs.declared.entries.Entry.{Entry}
-use Rattle.book.specs.Groups.{items, entered, reached, registered, Enters}
-use Rattle.book.specs.Entries.{entry, groups_of}
-use Rattle.book.specs.States.{State, state, fresh, children, start_over, needs, refusal, refused, allowed, taken, grown, answered, unless, take_answer, after_take}
+use Rattle.book.specs.Groups.{registered}
+use Rattle.book.specs.States.{State, state, fresh, needs, refusal, refused, allowed, taken, grown, answered, unless, take_answer, after_take}
 use Rattle.book.specs.Taken.{entry_at, entries_of, state_of, Holds, word_refusal, added_by, Takes}
-use Rattle.book.proofs.Growing.{same_state, tops_long, entries_long, formed_push, taken_push, grown_push}
+use Rattle.book.proofs.Growing.{tops_long, entries_long, formed_push, taken_push, grown_push}
 
 -- when a word is refused
 module _ (tops words free : ℕ) (w : Word) where
@@ -28,10 +27,6 @@ module _ (tops words free : ℕ) (w : Word) where
   pub refused_room : w.rank ≤ tops → words < 4096 → free < needs w → refusal tops words free w ≡ Some RegisterFull
   unfolding refusal
   refused_room a b c = cond-false _ _ _ (le-ltb _ _ a) ∙ (cond-false _ _ _ (lt-leb _ _ b) ∙ cond-true _ _ _ (lt-ltb _ _ c))
-
-  pub refused_not : w.rank ≤ tops → words < 4096 → needs w ≤ free → refusal tops words free w ≡ None
-  unfolding refusal
-  refused_not a b c = cond-false _ _ _ (le-ltb _ _ a) ∙ (cond-false _ _ _ (lt-leb _ _ b) ∙ cond-false _ _ _ (le-ltb _ _ c))
 
   pub not_refused : refusal tops words free w ≡ None → (w.rank ≤ tops) × (words < 4096) × (needs w ≤ free)
   not_refused e =
@@ -90,30 +85,6 @@ pub take_fine : (s t : State) (w : Word) (e : Entry) → refused s w ≡ None �
 unfolding take_answer after_take
 take_fine s t w e fine a b = (ap (λ x. answered None x) a ∙ ap (λ o. answered o (taken s w)) (sym fine), b ∙ ap (λ o. unless o (grown s w) s) (sym fine))
 
--- A word that is added, from what the code works out.
-module _ (qs qs' : List Pair) (room room' : ℕ) (es es' ts ts' mid slice slice' : List Entry) (w : Word) (first n group start : ℕ)
-    (at : first ≡ length ts - w.rank) (sliced : slice ≡ ts) (sliced' : slice' ≡ ts) (count : n ≡ length es)
-    (starts : start ≡ start_over (take (length slice - first) (drop first slice)) n)
-    (enters : Enters qs 0 (items w (groups_of (take (length slice' - first) (drop first slice')))) qs' group) (same : room' ≡ room)
-    (cut : mid ≡ take first ts) (topped : ts' ≡ mid ++ entry group start ∷ []) (pushed : es' ≡ es ++ entry group start ∷ []) where
-  rest : (l : List Entry) → l ≡ ts → take (length l - first) (drop first l) ≡ children (state qs room es ts) w
-  rest l e = take_rest l first ∙ (ap (drop first) e ∙ ap (λ k. drop k ts) at)
-
-  things : items w (groups_of (take (length slice' - first) (drop first slice'))) ≡ items w (groups_of (children (state qs room es ts) w))
-  things = ap (λ l. items w (groups_of l)) (rest slice' sliced')
-
-  pub grown_answer : entry group start ≡ taken (state qs room es ts) w
-  grown_answer =
-      ap (λ k. entry k start) (enters.number ∙ ap (reached qs 0) things)
-      ∙ ap (entry (reached qs 0 (items w (groups_of (children (state qs room es ts) w))))) (starts ∙ (ap (λ l. start_over l n) (rest slice sliced) ∙ ap (start_over (children (state qs room es ts) w)) count))
-
-  pub grown_after : state qs' room' es' ts' ≡ grown (state qs room es ts) w
-  grown_after =
-      let a : qs' ≡ entered qs 0 (items w (groups_of (children (state qs room es ts) w))) = enters.list ∙ ap (entered qs 0) things in
-      let b : es' ≡ es ++ taken (state qs room es ts) w ∷ [] = pushed ∙ ap (λ e. es ++ e ∷ []) grown_answer in
-      let c : ts' ≡ take (length ts - w.rank) ts ++ taken (state qs room es ts) w ∷ [] = topped ∙ (ap (λ l. l ++ entry group start ∷ []) (cut ∙ ap (λ k. take k ts) at) ∙ ap (λ e. take (length ts - w.rank) ts ++ e ∷ []) grown_answer) in
-      ap (λ r. state qs' r es' ts') same ∙ same_state qs' _ room es' _ ts' _ a b c
-
 -- a book just made
 pub fresh_is : (qs : List Pair) (room : ℕ) (es ts : List Entry) → es ≡ [] → ts ≡ [] → state qs room es ts ≡ fresh qs room
 fresh_is qs room es ts a b = cc
@@ -121,7 +92,3 @@ fresh_is qs room es ts a b = cc
 pub fresh_holds : (qs : List Pair) (room : ℕ) (s : State) → s ≡ fresh qs room → Holds qs [] s
 unfolding entries_of
 fresh_holds qs room s e = rw e (record { formed = tt; is = refl })
-
--- a taking of a word that is spelled otherwise
-pub took_as : (s : State) {t : State} {v w : Word} {r : Result (ℕ × ℕ) Refusal} → r ≡ take_answer s v → t ≡ after_take s v → v ≡ w → (r ≡ take_answer s w) × (t ≡ after_take s w)
-took_as s a b e = (a ∙ ap (take_answer s) e, b ∙ ap (after_take s) e)

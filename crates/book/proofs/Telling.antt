@@ -133,9 +133,6 @@ pub record Going (r : Reading) (s₀ : State) (x₀ : Telling) (s : State) (x : 
   pub fault : stops s (placed r x.tokens) x.fault ≡ stops s₀ (placed r x₀.tokens) x₀.fault
   pub after : takes_all s (placed r x.tokens) ≡ takes_all s₀ (placed r x₀.tokens)
 
-pub going_start : (r : Reading) (s : State) (x : Telling) → Going r s x s x
-going_start r s x = record { fault = refl; after = refl }
-
 -- what a first token, an end and a fault say of what is left to tell
 pub first_some : (ts : List Told) (f : Option Fault) (t : Told) → Ok (Some t) ≡ first_of ts f → ts ≡ t ∷ later_than_first ts
 first_some [] None t e = let z : ◌≡◌ {A = ℕ} 0 1 = cc in absurd (omega arith)

@@ -1,4 +1,5 @@
 // Rows of items entered into a register pair by pair: each number is that of the pair (number so far, item).
+// The number goes from call to call, as in a fold; a struct of the borrowed register and the number would be made and taken apart in one function.
 ghost use Rattle.std.specs.Prelude.{◌≡◌, ◌+◌, ◌<◌, ◌≤◌, length};
 ghost use Rattle.registers.specs.Pairs.{pair};
 ghost use Rattle.book.specs.Words.{word};

@@ -1,6 +1,5 @@
 // Questions to a book, and the listing of a closed one.
 ghost use Rattle.std.specs.Prelude.{◌≡◌, ◌≤◌, length};
-ghost use Rattle.book.specs.States.{State};
 ghost use Rattle.book.specs.Linking.{repeats_of, listed_answer, listed_table};
 ghost use Rattle.book.specs.Questions.{group_answer, start_answer, word_count, top_count, word_group, word_start, repeat_count, word_listed, word_table, Tells};
 ghost use Rattle.book.specs.Books.{held};

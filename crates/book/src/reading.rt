@@ -1,5 +1,5 @@
 // Reading typed texts into a book.
-ghost use Rattle.std.specs.Prelude.{◌≡◌, ◌≤◌, true, length, None};
+ghost use Rattle.std.specs.Prelude.{◌≡◌, true, length, None};
 ghost use Rattle.names.specs.Tokens.{malformed, syllabled, sung, lasting};
 ghost use Rattle.labels.specs.Spellings.{rest_spelling, syllable_spelling};
 ghost use Rattle.names.specs.Heard.{said};

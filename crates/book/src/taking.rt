@@ -50,6 +50,7 @@ impl<R: Register> Book<R, Taking> {
     }
 
     // Whether a word may be taken, or the first reason to refuse it.
+    #[tactic(auto, unfolding(crate::specs::States::refusal))]
     fn check_word<L: Label>(&self, label: &L, rank: u8) -> Result<(), Refusal>
         ensures { result ≡ allowed (refused (held self.now) (word rank (L.spelling label.now))) }
     {

@@ -2,9 +2,7 @@ use Rattle.std.proofs.Common.{◌≡◌, ◌+◌, ◌-◌, ◌≤◌, [], ◌∷
 use Rattle.std.proofs.lemmas.List.{take_rest, length_push}
 use Rattle.book.specs.Entries.{entry}
 use Rattle.book.specs.States.{start_over}
-use Rattle.book.specs.Words.{word}
 use Rattle.book.proofs.Placing.{within_push, start_within}
-use Rattle.book.proofs.Takings.{grown_answer, grown_after}
 use Rattle.book.proofs.taking.Book+R+Taking.grow.Goals as goal
 use Rattle.book.proofs.taking.Book+R+Taking.grow.Given.{Over}
 use Rattle.book.proofs.taking.Book+R+Taking.grow.Goals.{After-start_of-start}
@@ -40,15 +38,4 @@ invariant_of-self g c =
       stacked = omega (arith, topped.capacity, cut.capacity, s.stacked);
       within = within_push ts _ e (length es) _ first (omega (arith, s.tops.ok.0)) s.within (starts g (goal.at.invariant_of-self g c).After-start_of-start) pushed tops;
       staged = tt;
-    }
-
-pub returns : goal.returns
-returns g c =
-    let s = c.args.self.now in
-    let w = word c.args.rank (g.L.Label.spelling c.args.label.now) in
-    let at : c.len.result - c.args.rank ≡ length (vec_items s.tops) - c.args.rank = omega (arith, s.tops.ok.0) in
-    let number = c.number_word-group.ensures in
-    record {
-      answer = grown_answer _ _ _ _ _ _ _ _ _ _ _ w _ _ _ _ at c.as_slice.ensures.value c.as_slice.ensures.value c.words-position.ensures.value c.start_of-start.ensures number.enters number.same c.truncate.ensures.items c.push_reserved.ensures.items c.push.ensures;
-      after = grown_after _ _ _ _ _ _ _ _ _ _ _ w _ _ _ _ at c.as_slice.ensures.value c.as_slice.ensures.value c.words-position.ensures.value c.start_of-start.ensures number.enters number.same c.truncate.ensures.items c.push_reserved.ensures.items c.push.ensures;
     }
