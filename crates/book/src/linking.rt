@@ -67,6 +67,7 @@ impl Index {
     {
         let count = entries.as_slice().len();
         self.later.resize(count, 0).unwrap();
+        // By position, since at each one a word is read and two tables are written.
         for p in (0..count).rev() {
             self.link_word(entries, p);
         }

@@ -6,6 +6,7 @@ use std::alloc::{AllocError, Global};
 use std::process::Abort;
 use std::test::Fail;
 
+// A `Call` holds a table and cannot be copied into a second run, as these can.
 #[derive(Clone, Copy)]
 pub enum Asked<'a> {
     // A bare node of the rank.

@@ -28,7 +28,8 @@ struct Entered<'a> {
     verb: Verb,
 }
 
-// The calls of a session, each as it was typed and as it is performed, and whether a line was none.
+// The calls of a session, each as it was typed and as it is performed, and whether a line was none. The two rows stand apart,
+// since the calls go into the performing, and what was typed stays to be printed.
 #[derive(Drop)]
 struct Session<'a> {
     typed: Vec<Entered<'a>>,

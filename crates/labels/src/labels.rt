@@ -39,8 +39,14 @@ pub fn same_label<L: Label, M: Label>(left: &L, right: &M) -> bool
     ensures { Decides result (L.Label.spelling left.now ≡ M.Label.spelling right.now) }
 {
     let len = left.spelled_len();
-    right.spelled_len() == len
-        && (0..len).all(|place| left.spelled_at(place) == right.spelled_at(place))
+    right.spelled_len() == len && (0..len).all(|place| same_at(left, right, place))
+}
+
+// Whether the spellings have the same number at the place.
+fn same_at<L: Label, M: Label>(left: &L, right: &M, place: u16) -> bool
+    ensures { result ≡ (slice_index (L.Label.spelling left.now) place == slice_index (M.Label.spelling right.now) place) }
+{
+    left.spelled_at(place) == right.spelled_at(place)
 }
 
 // The kind number of a label, which its spelling begins with.

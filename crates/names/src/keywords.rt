@@ -97,9 +97,20 @@ impl Keyword {
     pub fn named(word: &[u8]) -> Option<Keyword>
         ensures { result ≡ keyword_named word.now }
     {
-        KEYWORDS
-            .iter()
-            .copied()
-            .find(|keyword| keyword.word() == word)
+        match word {
+            b"bar" => Some(Keyword::Bar),
+            b"verse" => Some(Keyword::Verse),
+            b"chord" => Some(Keyword::Chord),
+            b"sung" => Some(Keyword::Sung),
+            b"score" => Some(Keyword::Score),
+            b"soprano" => Some(Keyword::Soprano),
+            b"alto1" => Some(Keyword::Alto1),
+            b"alto2" => Some(Keyword::Alto2),
+            b"tenor" => Some(Keyword::Tenor),
+            b"bass1" => Some(Keyword::Bass1),
+            b"bass2" => Some(Keyword::Bass2),
+            b"organ" => Some(Keyword::Organ),
+            _ => None,
+        }
     }
 }

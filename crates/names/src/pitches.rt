@@ -66,9 +66,11 @@ impl Naming {
     pub fn named(word: &[u8]) -> Option<Naming>
         ensures { result ≡ naming_named word.now }
     {
-        [Naming::English, Naming::German]
-            .into_iter()
-            .find(|naming| naming.word() == word)
+        match word {
+            b"english" => Some(Naming::English),
+            b"german" => Some(Naming::German),
+            _ => None,
+        }
     }
 
     // The word that sets the naming in a text.

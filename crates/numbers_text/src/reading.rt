@@ -3,7 +3,7 @@ ghost use Rattle.std.specs.Prelude.{◌≡◌};
 ghost use Rattle.numbers_text.specs.Typed.{pair_typed};
 
 use registers::Pair;
-use typed::{read_number, find_space};
+use typed::{find_space, read_number};
 
 pub fn read_pair(text: &[u8]) -> Option<Pair>
     ensures { result ≡ pair_typed text.now }

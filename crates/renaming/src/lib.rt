@@ -63,7 +63,7 @@ impl<T: Drop> From<AllocFailed<T>> for Unrenamed {
 impl fmt::Display for Unrenamed {
     fn fmt<W: fmt::Write>(&self, f: &mut fmt::Formatter<W>) -> fmt::Result {
         match self {
-            Unrenamed::Fault(fault) => fault.fmt(f),
+            Unrenamed::Fault(met) => met.fmt(f),
             Unrenamed::Memory => f.write_str("there is not enough memory"),
         }
     }
