@@ -3,7 +3,8 @@ ghost use Rattle.std.specs.Prelude.{◌≡◌, ℕ, List, length, Decides, ◌==
 ghost use Rattle.labels.specs.Spellings.{Spells};
 
 pub trait Label {
-    // The kind number, with which each spelling of the kind begins, and how many numbers its longest spelling has.
+    // The kind number, the format's own, with which each spelling of the kind begins, and how many numbers its longest
+    // spelling has.
     const KIND: u16;
 
     const LONGEST: u16;

@@ -3,7 +3,7 @@ ghost use Rattle.std.specs.Prelude.{◌≡◌, ◌+◌, ◌<◌, ◌≤◌, true
 ghost use Rattle.std.specs.Str.{all_ascii_digits};
 ghost use Rattle.names.specs.Decimals.{number_read, value_from, ill_led};
 
-// What the digits write, if they are digits alone and it is at most `most`.
+// What the digits write, if they are digits alone and it is at most `most`. `parse` would take a sign too.
 fn value(digits: &[u8], most: u8) -> Option<u8>
     ensures { MatchOption result (all_ascii_digits digits.now ≡ true → most < value_from 0 digits.now) (λ v. (all_ascii_digits digits.now ≡ true) × (v ≡ value_from 0 digits.now) × (v ≤ most)) }
 {

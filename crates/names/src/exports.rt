@@ -1,5 +1,5 @@
 // Name reading and writing by plain numbers and bytes, for programs in C, which link the crate `names_c`.
-// Each answers 0, or the refusal's number.
+// Each answers 0, or the refusal's number, as a program in C wants it.
 ghost use Rattle.std.specs.Prelude.{◌≡◌};
 ghost use Rattle.std.specs.Option.{ok_or};
 ghost use Rattle.names.specs.declared.refusals.Refusal.TheVariants.{OutOfRange};

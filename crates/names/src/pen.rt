@@ -49,6 +49,8 @@ impl<'a> Pen<'a> {
         self.at += 1;
     }
 
+    // Digit by digit into the caller's buffer, since nothing is allocated here. To print the number there, the pen would
+    // have to be a writer of `fmt`, which may fail, while there is room for this.
     pub(crate) fn lay_decimal(&mut self, number: u32)
         requires { HasRoom self.old (decimal number) }
         ensures { Lays self.old self.new (decimal number) }

@@ -63,7 +63,7 @@ impl Eq for Refusal {
     ghost laws = { Prim.search (comparing, rules) };
 }
 
-// The number and the layer of each refusal, in the order of the list.
+// The number and the layer of each refusal, in the order of the list. The numbers are the format's own: one stands for two.
 static LISTED: [(u8, Layer); 18] = [
     (10, Layer::Text),
     (11, Layer::Text),

@@ -80,6 +80,7 @@ fn number_and_print(
     mut chains: Buckets,
 ) -> anyhow::Result<()> {
     let heap = rt.alloc();
+    // A table for the answers of each, as `side_by_side` fills them.
     let mut left = vec![in heap; None; asked.len()]?;
     let mut right = vec![in heap; None; asked.len()]?;
     let agree = side_by_side(&mut rows, &mut chains, asked, &mut left, &mut right);

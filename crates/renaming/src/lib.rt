@@ -99,6 +99,7 @@ fn append(line: &mut Vec<u8>, to: Naming, placed: &Placed) -> Result<bool, Alloc
     if let Token::Naming(_) = placed.token {
         return Ok(false);
     }
+    // Room for any token, since that is written to a buffer.
     let mut bytes = [0u8; 64];
     let Ok(end) = write_token(to, &placed.token, &mut bytes, 0) else {
         unreachable()

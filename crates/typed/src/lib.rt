@@ -5,6 +5,7 @@ ghost use Rattle.std.specs.Prelude.{◌≡◌, ◌<◌, ◌≤◌, IfSome, lengt
 ghost use Rattle.typed.specs.Typed.{with_digit, number_typed, space_place, first_word, behind};
 
 // The number so far with one more digit, or none where the byte is no digit or the number would not fit.
+// Digits are read here, and not by `parse`, which takes a sign too.
 fn with_digit(number: u32, byte: u8) -> Option<u32>
     ensures { result ≡ with_digit number byte }
 {
