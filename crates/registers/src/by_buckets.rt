@@ -120,13 +120,13 @@ impl Buckets {
 }
 
 impl Register for Buckets {
-    ghost use Rattle.registers.specs.Bucketed.{pairs_of, room_of, buckets_sound};
+    ghost use Rattle.registers.specs.Bucketed.{pairs_of, room_of, sound_of};
 
     ghost room = { room_of };
 
     ghost pairs = { pairs_of };
 
-    ghost sound = { buckets_sound };
+    ghost sound = { sound_of };
 
     // None without buckets.
     fn capacity(&self) -> u32 {
@@ -149,6 +149,7 @@ impl Register for Buckets {
         self.number_from(self.head_of(pair), pair)
     }
 
+    // In the row register as well: a few lines over what each does its own way.
     #[tactic(auto, using(crate::proofs::Listed::looked_up))]
     fn number(&mut self, pair: Pair) -> Option<u32> {
         let head = self.head_of(pair);

@@ -6,6 +6,8 @@ use crate::held::Held;
 use crate::meaning::Register;
 use crate::pairs::Pair;
 
+// That no two pairs are the same stands here and not in `Held`: a fact of a struct that owns memory cannot speak of what
+// the type of its places means.
 #[derive(Drop)]
 pub struct Rows {
     held: Held<Pair>,
@@ -56,13 +58,13 @@ impl Rows {
 }
 
 impl Register for Rows {
-    ghost use Rattle.registers.specs.Rowed.{pairs_of, room_of, rows_sound};
+    ghost use Rattle.registers.specs.Rowed.{pairs_of, room_of, sound_of};
 
     ghost room = { room_of };
 
     ghost pairs = { pairs_of };
 
-    ghost sound = { rows_sound };
+    ghost sound = { sound_of };
 
     fn capacity(&self) -> u32 {
         self.held.limit()
@@ -81,6 +83,7 @@ impl Register for Rows {
         Some(place as u32 + 1)
     }
 
+    // In the bucket register as well: a few lines over what each does its own way.
     #[tactic(auto, using(crate::proofs::Listed::looked_up))]
     fn number(&mut self, pair: Pair) -> Option<u32> {
         if let Some(number) = self.number_if_held(pair) {

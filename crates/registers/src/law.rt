@@ -31,7 +31,8 @@ fn fitting<'a>(asked: &'a [Pair], given: &[Option<u32>]) -> &'a [Pair]
 }
 
 // Asks two registers for the same pairs, as `number_all` does, and says whether they gave the same numbers.
-// With the same capacity, the same pairs and tables of one length they do, however they are built.
+// With the same capacity, the same pairs and tables of one length they do, however they are built. What `number_all` says of
+// one register is said again of both, since a public call says in full what it leaves.
 pub fn side_by_side<L: Register, R: Register>(
     left: &mut L,
     right: &mut R,
