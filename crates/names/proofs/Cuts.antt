@@ -1,12 +1,13 @@
 -- Texts cut into their tokens.
-use Rattle.std.proofs.Common.{◌≡◌, ℕ, zero, suc, ◌+◌, ◌-◌, ◌<◌, ◌≤◌, Bool, true, false, not, ◌⊎◌, List, [], ◌∷◌, ◌++◌, length, get_or, take, drop, Ok, Err, Option, sym, refl, ap, ◌∙◌, inl, inr, arith}
+use Rattle.std.proofs.Common.{◌≡◌, ℕ, zero, suc, ◌+◌, ◌-◌, ◌<◌, ◌≤◌, Bool, true, false, not, ◌⊎◌, List, [], ◌∷◌, ◌++◌, length, get_or, take, drop, Some, None, Ok, Err, Option, sym, refl, ap, ◌∙◌, inl, inr, arith}
 use Rattle.std.proofs.lemmas.List.{drop_more, drop_all, drop-drop, take-append-drop, length-drop, get_or-take, get_or-drop, length-take-le}
 use Rattle.std.proofs.lemmas.Bool.{cond-true, cond-false, and_parts, and_from, cases_lt}
 use Rattle.std.proofs.lemmas.List.Sums.{prefix_len-le-length, prefix_len_passes, prefix_len_stops}
 use Rattle.names.specs.declared.pitches.Naming.{Naming}
 use Rattle.names.specs.declared.refusals.Refusal.{Refusal}
+use Rattle.names.specs.declared.refusals.Fault.{Fault}
 use Rattle.names.specs.Cutting.{Stretch, Skipped, Ended, same_answer}
-use Rattle.names.specs.Texts.{Piece, goes_on, before, pieces, told, telling, silent, stopped, naming_after}
+use Rattle.names.specs.Texts.{Told, first_of, later_than_first, Piece, goes_on, before, pieces, told, telling, silent, stopped, naming_after}
 use Rattle.names.specs.Tokens.{Said, gap, each, run, token_read}
 
 abbrev pub solid : ℕ → Bool
@@ -156,5 +157,13 @@ module _ (g : Bool) (text : List ℕ) (at : ℕ) where
             unanswered _ g (ap answers (sym b) ∙ p);
       }
 
-  pub stretch_past : length text < at → Stretch g (not g) text at at
-  stretch_past h = record { forth = omega arith; within = λ l. l; all = λ k low high. absurd (omega arith); ends = λ low. absurd (omega arith) }
+-- what a first token and an end say of what is left to tell
+pub first_some : (ts : List Told) (f : Option Fault) (t : Told) → Ok (Some t) ≡ first_of ts f → ts ≡ t ∷ later_than_first ts
+first_some [] None t e = absurd (grind arith)
+first_some [] (Some f) t e = absurd (grind arith)
+first_some (u ∷ ts) f t e = let s : t ≡ u = cc in ap (λ y. y ∷ ts) (sym s)
+
+pub first_none : (ts : List Told) (f : Option Fault) → Ok None ≡ first_of ts f → (ts ≡ []) × (f ≡ None)
+first_none [] None e = (refl, refl)
+first_none [] (Some f) e = absurd (grind arith)
+first_none (u ∷ ts) f e = absurd (grind arith)

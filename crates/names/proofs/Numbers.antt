@@ -21,14 +21,8 @@ grows v (b ∷ bs) = let h = grows (v * 10 + (b - 48)) bs in omega arith
 pub digit_value : (ds : List ℕ) (i v : ℕ) → i < length ds → value_from v (drop i ds) ≡ value_from (v * 10 + (get_or ds i 0 - 48)) (drop (i + 1) ds)
 digit_value ds i v h = at_drop_more (value_from v) ds i 0 h
 
-pub digit_more : (ds : List ℕ) (i : ℕ) → i < length ds → all_ascii_digits (drop i ds) ≡ (is_ascii_digit (get_or ds i 0) && all_ascii_digits (drop (i + 1) ds))
-digit_more ds i h = at_drop_more all_ascii_digits ds i 0 h
-
 pub length_digit : (n : ℕ) → n < 10 → length (decimal n) ≡ 1
 length_digit n h = ap length (decimal_digit n h)
-
-pub length_step : (n : ℕ) → 10 ≤ n → n < 2 ^ 64 → length (decimal n) ≡ length (decimal (n / 10)) + 1
-length_step n h k = ap length (decimal_step n h k) ∙ length_push (decimal (n / 10)) (48 + n % 10)
 
 -- every number of a stretch is found in it, if no other passes the test
 pub up_finds : (test : ℕ → Bool) (low k n : ℕ) → low ≤ n → n < low + k → test n ≡ true → ((m : ℕ) → m < low + k → test m ≡ true → m ≡ n) → pick test (up_from low k) ≡ Some n
@@ -86,11 +80,3 @@ module _ (least most : ℕ) (small : most < 256) (bs : List ℕ) where
       by : (n : ℕ) → n < 2 ^ 64 → ill_led (decimal n) ≡ true → ⊥
       by zero s z = let o = length_digit 0 (omega arith) in grind arith
       by (suc n) s z = let o = first_decimal (suc n) (omega arith) s in let q = decimal_nonempty (suc n) s in grind arith
-
--- a byte that is no digit ends the digits
-pub not_digit : (ds : List ℕ) (i : ℕ) → i < length ds → (get_or ds i 0 < 48) ⊎ (57 < get_or ds i 0) → all_ascii_digits (drop i ds) ≡ true → ⊥
-not_digit ds i h (inl z) a = let e = digit_more ds i h in grind arith
-not_digit ds i h (inr z) a = let e = digit_more ds i h in grind arith
-
-pub a_digit : (ds : List ℕ) (i : ℕ) → i < length ds → 48 ≤ get_or ds i 0 → get_or ds i 0 ≤ 57 → all_ascii_digits (drop i ds) ≡ all_ascii_digits (drop (i + 1) ds)
-a_digit ds i h l u = let e = digit_more ds i h in grind arith

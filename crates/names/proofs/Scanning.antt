@@ -63,7 +63,7 @@ after_octave (b ∷ bs) k o = by (eqb b 47)
     by true = after_stroke bs k o
     by false = rw (after_amiss bs k o) (record { name = refl; struck = refl; octave = refl })
 
-abbrev digitless : ℕ → Bool
+abbrev pub digitless : ℕ → Bool
 digitless b = not (is_ascii_digit b)
 
 -- the octave counts only behind a name that is followed by a digit

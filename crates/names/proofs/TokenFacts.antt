@@ -20,6 +20,7 @@ use Rattle.names.specs.Names.{name, pitch_read}
 use Rattle.names.specs.Pitches.{naming_word, naming_named, namings}
 use Rattle.names.specs.TokenLaws.{TokenLaws}
 use Rattle.names.specs.Tokens.{Said, naming, syllable, note, rest, frame, each, run, colon, plain, quoted, quotes, marked, inside, syllabled, lasting, sung, unless, malformed, spelled, syllable_read, note_name, note_tail, tailed, note_read, of_pitch, of_length, length_read, rank_read, rest_read, rest_begun, framed, frame_read, begun, read_by_kind, worded, token_read}
+use Rattle.names.proofs.Scanning.{digitless}
 use Rattle.names.proofs.NameFacts.{capital, name_lists, no_digit, short, that_name, whole}
 use Rattle.names.proofs.Numbers.{reads_some, some_read}
 use Rattle.names.proofs.Picks.{pick_passes}
@@ -29,9 +30,6 @@ use Rattle.names.proofs.Reading.{note_tailed, frame_parts, token_kind}
 pub formed : (t : Bool) (r : Refusal) → unless t r ≡ None → t ≡ true
 formed true r e = refl
 formed false r e = absurd (grind arith)
-
-abbrev digitless : ℕ → Bool
-digitless b = not (is_ascii_digit b)
 
 -- a front that passes, up to a byte that does not
 run_stops : (test : ℕ → Bool) (xs : List ℕ) (b : ℕ) (ys : List ℕ) → each test xs ≡ true → test b ≡ false → run test (xs ++ b ∷ ys) ≡ length xs

@@ -3,6 +3,8 @@ ghost use Rattle.std.specs.Prelude.{◌≡◌, ◌+◌, ◌<◌, ◌≤◌, true
 ghost use Rattle.std.specs.Str.{all_ascii_digits};
 ghost use Rattle.names.specs.Decimals.{number_read, value_from, ill_led};
 
+use itoa::Buffer;
+
 // What the digits write, if they are digits alone and it is at most `most`. `parse` would take a sign too.
 fn value(digits: &[u8], most: u8) -> Option<u8>
     ensures { MatchOption result (all_ascii_digits digits.now ≡ true → most < value_from 0 digits.now) (λ v. (all_ascii_digits digits.now ≡ true) × (v ≡ value_from 0 digits.now) × (v ≤ most)) }
@@ -42,9 +44,5 @@ pub(crate) fn decimal_length(number: u32) -> usize
     ensures value { result ≡ length (decimal number) }
     ensures few { result ≤ 10 }
 {
-    if number < 10 {
-        1
-    } else {
-        decimal_length(number / 10) + 1
-    }
+    Buffer::new().format(number).len()
 }

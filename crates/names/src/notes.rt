@@ -1,5 +1,5 @@
 // A small machine that takes a note apart, a byte at a time: it matches its own step together with the next byte,
-// a form that is wanted here. So the octave stands beside the step, and counts once that is past the name.
+// a form that is wanted (docs/DECISIONS.md). So the octave stands beside the step, and counts once that is past the name.
 ghost use Rattle.std.specs.Prelude.{◌≡◌, ◌<◌, ◌≤◌, length};
 ghost use Rattle.names.specs.Scanned.{start, stepped, scanned, struck};
 

@@ -1,6 +1,8 @@
 // A pen that lays bytes over a part of a caller's buffer, and stands behind what it laid.
 ghost use Rattle.std.specs.Prelude.{◌≡◌, ◌+◌, [], ◌∷◌, decimal, nat_le};
 
+use itoa::Buffer;
+
 #[derive(Drop)]
 pub struct Pen<'a> {
     out: &'a mut [u8],
@@ -49,18 +51,10 @@ impl<'a> Pen<'a> {
         self.at += 1;
     }
 
-    // Digit by digit into the caller's buffer, since nothing is allocated here. To print the number there, the pen would
-    // have to be a writer of `fmt`, which may fail, while there is room for this.
     pub(crate) fn lay_decimal(&mut self, number: u32)
         requires { HasRoom self.old (decimal number) }
         ensures { Lays self.old self.new (decimal number) }
     {
-        let last = b'0' + (number % 10) as u8;
-        if number < 10 {
-            self.lay_byte(last);
-        } else {
-            self.lay_decimal(number / 10);
-            self.lay_byte(last);
-        }
+        self.lay(Buffer::new().format(number).as_bytes());
     }
 }

@@ -39,7 +39,7 @@ pub(crate) fn spelling(naming: Naming, pitch: Pitch) -> &'static [u8]
     }
 }
 
-// The step that a name's first byte stands for.
+// The step that a name's first byte stands for. It is matched as a character, a form that is wanted (docs/DECISIONS.md).
 fn lettered(naming: Naming, first: u8) -> Option<Step>
     ensures { result ≡ lettered_step naming first }
 {

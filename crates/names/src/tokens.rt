@@ -48,7 +48,7 @@ pub(crate) fn is_syllable(bytes: &[u8]) -> bool
 pub(crate) fn is_gap(byte: u8) -> bool
     ensures { result ≡ gap byte }
 {
-    byte == b' ' || byte == b'\n'
+    matches!(byte, b' ' | b'\n')
 }
 
 fn is_plain(byte: u8) -> bool
@@ -113,7 +113,10 @@ fn before_colon(bytes: &[u8]) -> usize
 fn after_first(bytes: &[u8]) -> &[u8]
     ensures { result.now ≡ drop 1 bytes.now }
 {
-    bytes.get(1..).unwrap_or(bytes)
+    match bytes {
+        [_, rest @ ..] => rest,
+        [] => bytes,
+    }
 }
 
 fn read_frame<'a>(bytes: &'a [u8]) -> Result<Token<'a>, Refusal>

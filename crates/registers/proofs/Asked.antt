@@ -11,10 +11,6 @@ use Rattle.registers.specs.Holding.{holding}
 use Rattle.registers.specs.Asking.{holding_all, numbers, Law, same_numbers}
 use Rattle.registers.proofs.Listed.{at_place, holds_append, place_append, number_some, some_number, pair_at_number, number_of_pair_at, holding_old, holding_new, holding_full}
 
-numbers_length : (room : ℕ) (qs asked : List Pair) → length (numbers room qs asked) ≡ length asked
-numbers_length room qs [] = refl
-numbers_length room qs (p ∷ asked) = ap suc (numbers_length room (holding room qs p) asked)
-
 -- A number stays.
 
 pub holding_stays : (room : ℕ) (qs : List Pair) (q p : Pair) (n : ℕ) → number_in qs p ≡ Some n → number_in (holding room qs q) p ≡ Some n

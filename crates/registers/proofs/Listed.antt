@@ -53,11 +53,6 @@ at_place (q ∷ qs) p h =
     (λ e. let k : holds qs p ≡ true = grind arith in rw (cond-false (same q p) 0 (1 + place qs p) e, one-add (place qs p)) (at_place qs p k))
     (cases_Bool (same q p))
 
-pub holds_at : (qs : List Pair) (i : ℕ) → i < length qs → holds qs (at qs i) ≡ true
-holds_at [] i h = absurd (omega arith)
-holds_at (q ∷ qs) zero h = or_left (same q q) (holds qs q) (same_self q)
-holds_at (q ∷ qs) (suc i) h = or_right (same q (at qs i)) (holds qs (at qs i)) (holds_at qs i (omega arith))
-
 -- where no two are the same, a pair's place is the only one that has it
 pub place_at : (qs : List Pair) (i : ℕ) (p : Pair) → Apart qs → i < length qs → same (at qs i) p ≡ true → (holds qs p ≡ true) × (place qs p ≡ i)
 place_at qs i p a l h = place_first qs p i l h (λ k b. rw (← same_eq (at qs i) p h) (a k i (b, l)))

@@ -38,7 +38,7 @@ impl Rows {
         held.into_table()
     }
 
-    // The place of the pair, from 0. It stays a loop that stops at the first match and yields its place: that form is wanted here.
+    // The place of the pair, from 0. It stays a loop that stops at the first match and yields its place: that form is wanted (docs/DECISIONS.md).
     fn place_of(&self, pair: Pair) -> Option<usize>
         ensures value { result ≡ place_in (pairs_of self.now) pair }
         ensures few { IfSome result (λ i. i < 32768) }

@@ -18,6 +18,7 @@ use Rattle.names.specs.Pitches.{naming_word}
 use Rattle.names.specs.Reader.{opening}
 use Rattle.names.specs.Texts.{Told, Telling, first_of, later_than_first, later, pieces, told, stopped, text_told}
 use Rattle.names.specs.Tokens.{Said, malformed, spelled, placed, buffered}
+use Rattle.names.proofs.Cuts.{first_some, first_none}
 use Rattle.names.proofs.Laying.{laid_front}
 use Rattle.names.proofs.Lines.{spelled_short, line_laws, text_few}
 use Rattle.renaming.specs.declared.Tally.{Tally}
@@ -67,16 +68,6 @@ opens text x e = by (ltb 65536 (length text)) refl e
     by : (b : Bool) → ltb 65536 (length text) ≡ b → ◌≡◌ {A = Result Telling Fault} (Ok x) (cond b (Err (record { refusal = TextTooLong; byte = 0 })) (Ok (told None (pieces 0 text)))) → (x ≡ cond b (stopped TextTooLong 0) (told None (pieces 0 text))) × (length text ≤ 65536)
     by true l e = absurd (grind arith)
     by false l e = ((cc), ltb-false 65536 (length text) l)
-
-pub first_some : (ts : List Told) (f : Option Fault) (t : Told) → Ok (Some t) ≡ first_of ts f → ts ≡ t ∷ later_than_first ts
-first_some [] None t e = absurd (grind arith)
-first_some [] (Some f) t e = absurd (grind arith)
-first_some (u ∷ ts) f t e = let s : t ≡ u = cc in ap (λ y. y ∷ ts) (sym s)
-
-pub first_none : (ts : List Told) (f : Option Fault) → Ok None ≡ first_of ts f → (ts ≡ []) × (f ≡ None)
-first_none [] None e = (refl, refl)
-first_none [] (Some f) e = absurd (grind arith)
-first_none (u ∷ ts) f e = absurd (grind arith)
 
 pub sofar_start : (text : List ℕ) (to : Naming) (done : List ℕ) (x : Telling) → Ok x ≡ opening text → done ≡ naming_word to → Sofar text to done none x
 sofar_start text to done x e d =

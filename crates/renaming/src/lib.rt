@@ -101,14 +101,11 @@ fn append(line: &mut Vec<u8>, to: Naming, placed: &Placed) -> Result<bool, Alloc
     }
     // Room for any token, since that is written to a buffer.
     let mut bytes = [0u8; 64];
-    let Ok(end) = write_token(to, &placed.token, &mut bytes, 0) else {
-        unreachable()
-    };
-    let word = &bytes[0..end];
+    let end = write_token(to, &placed.token, &mut bytes, 0).unwrap();
+    let word = &bytes[..end];
     line.push(b' ')?;
     line.extend_from_slice(word)?;
-    let same = word == placed.bytes;
-    Ok(!same)
+    Ok(word != placed.bytes)
 }
 
 // The words of the text as one line in the naming, however long, and what was seen of the text.

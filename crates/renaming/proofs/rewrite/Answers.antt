@@ -4,7 +4,8 @@ use Rattle.names.specs.Texts.{pieces}
 use Rattle.names.proofs.Lines.{told_formed}
 use Rattle.renaming.specs.declared.Tally.{Tally}
 use Rattle.renaming.specs.Renaming.{none, Sofar}
-use Rattle.renaming.proofs.Renewing.{first_some, first_none, sofar_start, sofar_more, too_long, renews}
+use Rattle.names.proofs.Cuts.{first_some, first_none}
+use Rattle.renaming.proofs.Renewing.{sofar_start, sofar_more, too_long, renews}
 use Rattle.renaming.proofs.rewrite.Goals as goal
 
 tally : ℕ → ℕ → ℕ → ℕ → ℕ → ℕ → Tally
