@@ -2,8 +2,7 @@
 use crate::verbs::Verb;
 use book::{Answer, Listed};
 use names::Refusal;
-use std::fmt;
-use std::fmt::Display;
+use std::fmt::{self, Display};
 
 // What is answered to a call of the verb.
 #[derive(Clone, Copy)]
@@ -22,9 +21,9 @@ impl<'a> fmt::Display for Reply<'a> {
             Answer::Counted(count) => how_many(f, self.verb, *count),
             Answer::Told(Ok(number)) => told(f, self.verb, *number),
             Answer::Listed(Ok(listed), table) => list(f, *listed, table.as_slice()),
-            Answer::Taken(Err(refusal)) => refused(f, *refusal),
-            Answer::Told(Err(refusal)) => refused(f, *refusal),
-            Answer::Listed(Err(refusal), _) => refused(f, *refusal),
+            Answer::Taken(Err(refusal))
+            | Answer::Told(Err(refusal))
+            | Answer::Listed(Err(refusal), _) => refused(f, *refusal),
             Answer::NotAllowed => f.write_str(not_allowed(self.verb)),
         }
     }

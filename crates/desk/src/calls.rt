@@ -42,23 +42,18 @@ impl fmt::Display for Stray {
 pub fn read_call<'a>(heap: Global, line: &'a [u8]) -> Result<(Verb, Call<'a, Kind<'a>>), Stray> {
     let (word, rest) = cut(line);
     let verb = Verb::named(word).ok_or(Stray::NoVerb)?;
-    let call = call_of(heap, verb, rest.trim_ascii_start())?;
-    Ok((verb, call.ok_or(Stray::NotOfForm(verb))?))
+    Ok((verb, call_of(heap, verb, rest.trim_ascii_start())?))
 }
 
-// The call of a verb and what is typed behind it, or none where the verb wants something else there.
-fn call_of<'a>(
-    heap: Global,
-    verb: Verb,
-    rest: &'a [u8],
-) -> Result<Option<Call<'a, Kind<'a>>>, AllocError> {
+// The call of a verb and what is typed behind it.
+fn call_of<'a>(heap: Global, verb: Verb, rest: &'a [u8]) -> Result<Call<'a, Kind<'a>>, Stray> {
     match verb {
         Verb::List => listing(heap, rest),
-        _ => Ok(tableless(verb, rest)),
+        _ => tableless(verb, rest).ok_or(Stray::NotOfForm(verb)),
     }
 }
 
-// The same for the verbs whose calls bring no table with them.
+// The call of a verb that brings no table with it, or none where the verb wants something else behind it.
 fn tableless<'a>(verb: Verb, rest: &'a [u8]) -> Option<Call<'a, Kind<'a>>> {
     match verb {
         Verb::Read | Verb::Written => Some(Call::Read(Reading::Written, rest)),
@@ -107,24 +102,18 @@ fn syllable<'a>(typed: &'a [u8]) -> Option<Node<SyllableLabel<'a>>> {
 }
 
 // A listing with a table for its ends: as long as any book needs, or of so many places.
-fn listing<'a>(heap: Global, rest: &'a [u8]) -> Result<Option<Call<'a, Kind<'a>>>, AllocError> {
+fn listing<'a>(heap: Global, rest: &'a [u8]) -> Result<Call<'a, Kind<'a>>, Stray> {
     let (repeat, places) = cut(rest);
-    let Some(k) = read_number(repeat) else {
-        return Ok(None);
-    };
-    let places = if places.is_empty() {
-        Some(MOST_WORDS)
-    } else {
-        places_of(places)
-    };
-    match places {
-        Some(places) => Ok(Some(Call::List(k, vec![in heap; 0; places]?))),
-        None => Ok(None),
-    }
+    let k = read_number(repeat).ok_or(Stray::NotOfForm(Verb::List))?;
+    let places = places_of(places).ok_or(Stray::NotOfForm(Verb::List))?;
+    Ok(Call::List(k, vec![in heap; 0; places]?))
 }
 
 // No repeat has more ends than a book has words.
 fn places_of(typed: &[u8]) -> Option<usize> {
+    if typed.is_empty() {
+        return Some(MOST_WORDS);
+    }
     let places = read_number(typed)? as usize;
     (places <= MOST_WORDS).then_some(places)
 }

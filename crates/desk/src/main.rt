@@ -84,10 +84,10 @@ fn read_lines(rt: &HostRuntime) -> io::Result<Vec<String>> {
 // The calls of the lines. A line that is none is named at once, and the others count all the same.
 fn read_session<'a>(rt: &HostRuntime, lines: &'a [String]) -> io::Result<Session<'a>> {
     let mut session = Session::new(rt.alloc());
-    for (i, line) in lines.iter().enumerate() {
+    for (number, line) in (1usize..).zip(lines.iter()) {
         let text = line.as_str().trim_ascii();
         if !text.is_empty() && !text.starts_with("#") {
-            session.enter(rt, i.saturating_add(1), text)?;
+            session.enter(rt, number, text)?;
         }
     }
     Ok(session)
@@ -126,10 +126,8 @@ fn perform(
         vec![in heap; Slot::default(); capacity]?,
         vec![in heap; 0; BUCKETS]?,
     );
-    match perform_all(heap, register, calls) {
-        Ok((_register, answers)) => Ok(answers),
-        Err(_register) => Err(AllocError),
-    }
+    let (_register, answers) = perform_all(heap, register, calls).map_err(|_register| AllocError)?;
+    Ok(answers)
 }
 
 fn print_answers(

@@ -45,7 +45,7 @@ pub struct Fault {
     pub byte: usize,
 }
 
-// Written out: its contract says that it tells the same refusals from different ones, and a derive has no contract.
+// Written out: its clauses say that it tells the same refusals from different ones, and a derive states laws but no clauses.
 impl PartialEq for Refusal {
     ghost eq = { same_refusal };
 

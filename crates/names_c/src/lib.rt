@@ -1,4 +1,5 @@
-// What programs in C link: the functions of `names::exports` under their C names, one for one.
+// What programs in C link: the functions of `names::exports` under their C names, one for one. They are said twice, since a
+// crate is a library for Rattle or an archive for C, and not both.
 #![tactic(auto)]
 
 ghost use Rattle.std.specs.Prelude.{◌≡◌};

@@ -120,8 +120,7 @@ fn print_answer(
     chains: Option<u32>,
     count: u32,
 ) -> anyhow::Result<()> {
-    let first = pair.first;
-    let second = pair.second;
+    let Pair { first, second } = pair;
     let word = word_for(rows, count);
     let rows = Answer(rows);
     let chains = Answer(chains);

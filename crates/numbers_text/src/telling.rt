@@ -22,11 +22,8 @@ pub fn word_for(number: Option<u32>, count: u32) -> Word
     ensures right { (room : ℕ) (qs : List Pair) (p : Pair) → length qs ≡ count → number ≡ number_in (holding room qs p) p → result ≡ told_of room qs p }
 {
     match number {
-        Some(number) => if number > count {
-            Word::New
-        } else {
-            Word::Known
-        },
+        Some(number) if number > count => Word::New,
+        Some(_) => Word::Known,
         None => Word::Refused,
     }
 }

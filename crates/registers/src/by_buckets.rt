@@ -55,7 +55,7 @@ impl Buckets {
         ensures { result ≡ longest_of_chains (vec_len self.now.heads) (pairs_of self.now) }
     {
         let mut longest = 0;
-        // No `map` and `max`: what a chain of iterators says of the largest was not proved of the definition here.
+        // No `fold`: it is proved only by a law and an answer of its own, which say this loop over again.
         for bucket in 0..self.heads.len() {
             longest = self.chain_length(bucket).max(longest);
         }

@@ -17,6 +17,7 @@ pub fn number_all<R: Register>(register: &mut R, asked: &[Pair], given: &mut [Op
     ensures law { Law (R.room register.old) (fitting asked.now given.old) (numbers (R.room register.old) (R.pairs register.old) (fitting asked.now given.old)) (R.pairs register.new) }
 {
     let fitting = fitting(asked, given);
+    // By place, since nothing is known of a table after an adapter of `iter_mut` has run over it.
     for (place, pair) in fitting.iter().enumerate() {
         given[place] = register.number(*pair);
     }

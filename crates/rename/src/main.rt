@@ -5,7 +5,7 @@ mod options;
 
 use crate::options::{HELP, Options, parse};
 use names::Naming;
-use renaming::{Renamed, rename};
+use renaming::{Renamed, Tally, rename};
 use std::alloc::Global;
 use std::io::{Read, Write};
 use std::process::ExitCode;
@@ -70,9 +70,14 @@ fn tell_steps(
     bytes: usize,
     renamed: &Renamed,
 ) -> io::Result<()> {
-    let tally = renamed.tally;
-    let (tokens, notes, changed) = (tally.tokens, tally.notes, tally.changed);
-    let (syllables, rests, frames) = (tally.syllables, tally.rests, tally.frames);
+    let Tally {
+        tokens,
+        notes,
+        syllables,
+        rests,
+        frames,
+        changed,
+    } = renamed.tally;
     let naming = match options.to {
         Naming::English => "English",
         Naming::German => "German",

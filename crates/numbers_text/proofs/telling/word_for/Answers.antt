@@ -3,5 +3,5 @@ use Rattle.numbers_text.specs.declared.telling.Word.TheVariants.{Known}
 use Rattle.numbers_text.proofs.Words.{told_right}
 use Rattle.numbers_text.proofs.telling.word_for.Goals as goal
 
-pub returns-else-number-count-clause-right : goal.returns-else-number-count-clause-right
-returns-else-number-count-clause-right c room qs p e f = told_right room qs p _ _ e f Known (search rules)
+pub returns-in-Some-2-clause-right : goal.returns-in-Some-2-clause-right
+returns-in-Some-2-clause-right c room qs p e f = told_right room qs p _ _ e f Known (search rules)
