@@ -19,7 +19,7 @@ fn places_for(spelled: u16, rank: u8) -> u32
     2 + u32::from(spelled) + u32::from(rank)
 }
 
-// Whether the register has a place for each item of a word.
+// Whether the register has a place for each item of a word. The longest of the kind comes first, since it spares asking the label's length.
 fn has_places<R: Register, L: Label>(register: &R, label: &L, rank: u8) -> bool
     ensures { result ≡ nat_le (needs (word rank (L.spelling label.now))) (R.room register.now - length (R.pairs register.now)) }
 {
@@ -54,7 +54,7 @@ impl<R: Register> Book<R, Taking> {
     fn check_word<L: Label>(&self, label: &L, rank: u8) -> Result<(), Refusal>
         ensures { result ≡ allowed (refused (held self.now) (word rank (L.spelling label.now))) }
     {
-        if rank as usize > self.tops.len() {
+        if usize::from(rank) > self.tops.len() {
             return Err(Refusal::RankAboveTops);
         }
         if self.entries.is_full() {
@@ -75,7 +75,7 @@ impl<R: Register> Book<R, Taking> {
         ensures after { held self.new ≡ grown (held self.old) (word rank (L.spelling label.now)) }
     {
         let position = self.words();
-        let first = self.tops.len() - rank as usize;
+        let first = self.tops.len() - usize::from(rank);
         let children = &self.tops.as_slice()[first..];
         let start = start_of(children, position);
         let group = number_word(&mut self.register, label, rank, children);
