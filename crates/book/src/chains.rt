@@ -50,7 +50,7 @@ fn enter_children<R: Register>(register: &mut R, mut number: u32, children: &[En
     number
 }
 
-// The group number of a word over its children: that of its items from 0 on.
+// The group number of a word over its children: that of its items from 0 on. Label and rank come apart, as `take` is given them.
 pub(crate) fn number_word<R: Register, L: Label>(
     register: &mut R,
     label: &L,

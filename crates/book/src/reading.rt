@@ -40,7 +40,7 @@ impl<R: Register> Book<R, Taking> {
             .map_err(|refusal| Fault { refusal, byte })
     }
 
-    // Takes the word that a token tells, if it tells one.
+    // Takes the word that a token tells, if it tells one. What the functions below answer is dropped here, since a reading tells neither groups nor starts.
     fn take_token(&mut self, reading: Reading, token: &Token) -> Result<(), Refusal>
         requires { malformed (said token.now) ≡ None }
         ensures answer { result ≡ untold (told_answer (held self.old) (word_of reading (said token.now))) }
@@ -59,6 +59,7 @@ impl<R: Register> Book<R, Taking> {
     }
 
     // Takes a syllable, which borrows its bytes from the text.
+    // It answers as `take` does, and so do the next three: `Took` is said of that answer.
     fn take_syllable(&mut self, reading: Reading, bytes: &[u8]) -> Result<(u32, u32), Refusal>
         requires { syllabled bytes.now ≡ true }
         ensures { Took (held self.old) (held self.new) (word 0 (spelled_in reading (syllable_spelling bytes.now))) result }
@@ -92,7 +93,7 @@ impl<R: Register> Book<R, Taking> {
         self.take_as(reading, &RestLabel::new(length).unwrap(), 0)
     }
 
-    // Takes a word with its label, or with none where the reading is bare.
+    // Takes a word with its label, or with none where the reading is bare. Label and rank go to `take` apart, and come so.
     fn take_as<L: Label>(
         &mut self,
         reading: Reading,
