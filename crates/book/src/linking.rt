@@ -32,10 +32,17 @@ pub(crate) struct Index {
     ghost listing: { 4096 ≤ vec_capacity firsts },
 }
 
+// So many places, with 0 in each. A function of its own, since the check then weighs the length alone, and not so many zeros.
+fn zeros(heap: Global, count: usize) -> Result<Vec<u32>, AllocError>
+    ensures { IfOk result (λ places. vec_len places ≡ count) }
+{
+    vec![in heap; 0; count]
+}
+
 // Closing.
 impl Index {
     pub(crate) fn new(heap: Global) -> Result<Index, AllocError> {
-        let latest = vec![in heap; 0; MOST_PAIRS + 1]?;
+        let latest = zeros(heap, MOST_PAIRS + 1)?;
         let later = Vec::with_capacity(heap, MOST_WORDS)?;
         let firsts = Vec::with_capacity(heap, MOST_WORDS)?;
         Ok(Index {
