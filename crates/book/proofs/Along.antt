@@ -56,9 +56,6 @@ enters_length {qs} {n = n} {is = is} a = rw a.list (length_entered qs n is)
 pub numbered_in_room : (room : ℕ) (qs : List Pair) (p : Pair) → length qs < room → number_in (holding room qs p) p ≡ Some (number_of (hold qs p) p)
 numbered_in_room room qs p h = ap (λ rs. number_in rs p) (hold_in_room room qs p h) ∙ number_answered (hold qs p) p (holds_hold qs p)
 
-pub some_same : {x y : ℕ} → Some x ≡ Some y → x ≡ y
-some_same e = cc
-
 -- a number that is reached is that of a pair in the list then
 reached_within : (qs : List Pair) (n : ℕ) (is : List ℕ) → n ≤ length qs → reached qs n is ≤ length (entered qs n is)
 reached_within qs n [] h = h

@@ -1,5 +1,5 @@
 -- Rows as lists, as code holds them. Assumes nothing.
-use Rattle.std.proofs.Common.{◌≡◌, ℕ, zero, suc, ◌+◌, ◌-◌, ◌<◌, ◌≤◌, List, [], ◌∷◌, ◌++◌, map, length, take, drop, sym, refl, ap, ◌∙◌, arith}
+use Rattle.std.proofs.Common.{◌≡◌, ℕ, zero, suc, ◌+◌, ◌-◌, ◌<◌, ◌≤◌, List, [], ◌∷◌, ◌++◌, map, length, get_or, take, drop, sym, refl, ap, ◌∙◌, arith}
 use Rattle.std.proofs.lemmas.List.{length_push, map_push, take-append-le, drop-append-le, take_all, drop_all, drop-map, length-take}
 use Rattle.book.specs.Words.{Word}
 use Rattle.registers.specs.declared.pairs.Pair.{Pair}
@@ -39,6 +39,16 @@ without_last_in_order (suc n) (row ▹ t) h =
 -- The numbers of a word's children, in the list of the tops' numbers.
 pub groups_last : (qs : List Pair) (n : ℕ) (row : Row) → n ≤ count row → groups qs (last n row) ≡ drop (count row - n) (groups qs row)
 groups_last qs n row h = simp groups_in_order (ap (map (group qs)) (last_in_order n row h) ∙ sym (drop-map (group qs) (count row - n) (in_order row)))
+
+-- every passage of the words, in the order of their ends
+abbrev pub passages : Row → List Word → List Passage
+passages row [] = []
+passages row (w ∷ ws) = made row w ∷ passages (push row w) ws
+
+pub get_or_passages : (row : Row) (ws : List Word) (p : ℕ) (d : Passage) → p < length ws → get_or (passages row ws) p d ≡ top (reading row (take (suc p) ws))
+get_or_passages row [] p d h = absurd (omega arith)
+get_or_passages row (w ∷ ws) zero d h = refl
+get_or_passages row (w ∷ ws) (suc p) d h = get_or_passages (push row w) ws p d (omega arith)
 
 -- Where each passage of a row starts.
 abbrev pub starts : Row → List ℕ

@@ -16,7 +16,7 @@ use Rattle.book.specs.declared.readings.Reading.{Reading}
 use Rattle.book.specs.Words.{Word}
 use Rattle.book.specs.States.{State, refused, grown, take_answer, after_take, answered, unless, taken}
 use Rattle.book.specs.Taken.{Holds, word_refusal}
-use Rattle.book.specs.Readings.{word_of, Placed, placing, placed, said_of, text_words, words_added, fault_at, faulting, first_fault, read_as, told_as, told_answer, faulted, after_told, stops, grown_by, takes_all, read_answer, after_read, Reads}
+use Rattle.book.specs.Readings.{word_of, Placed, placing, placed, said_of, text_words, words_added, fault_at, faulting, first_fault, read_as, told_as, told_answer, untold, faulted, after_told, stops, grown_by, takes_all, read_answer, after_read, Reads}
 use Rattle.book.proofs.Takings.{refused_as, grown_as}
 
 -- Tokens begin one behind another, and the fault that stops them behind them all.
@@ -158,6 +158,15 @@ answered_refused : (o : Option Refusal) (s : State) (w : Word) (r : Refusal) →
 answered_refused None s w r e = let z : ◌≡◌ {A = ℕ} 0 1 = cc in absurd (omega arith)
 answered_refused (Some x) s w r e = cc
 
+-- what an answer without its group and start says of the answer
+untold_fine : {X : Type 0} (x : Result X Refusal) → Ok tt ≡ untold x → (y : X) × (Ok y ≡ x)
+untold_fine (Ok y) e = (y, refl)
+untold_fine (Err r) e = let z : ◌≡◌ {A = ℕ} 0 1 = cc in absurd (omega arith)
+
+untold_refused : {X : Type 0} (x : Result X Refusal) (r : Refusal) → Err r ≡ untold x → Err r ≡ x
+untold_refused (Ok y) r e = let z : ◌≡◌ {A = ℕ} 0 1 = cc in absurd (omega arith)
+untold_refused (Err q) r e = cc
+
 -- what an answer with its byte says of the answer
 faulted_fine : {X : Type 0} (at : ℕ) (x : Result X Refusal) (y : X) → Ok y ≡ faulted at x → Ok y ≡ x
 faulted_fine at (Ok z) y e = cc
@@ -174,13 +183,13 @@ module _ (r : Reading) (s₀ : State) (x₀ : Telling) (s : State) (x : Telling)
   after_first : takes_all s (placing t.byte (word_of r t.says) (placed r (later_than_first x.tokens))) ≡ takes_all s₀ (placed r x₀.tokens)
   after_first = ap (λ ts. takes_all s (placed r ts)) (sym first) ∙ going.after
 
-  pub going_more : (s' : State) (x' : Telling) (y : Option (ℕ × ℕ)) → Ok y ≡ faulted t.byte (told_answer s (word_of r t.says)) → s' ≡ after_told s (word_of r t.says) → x' ≡ later x → Going r s₀ x₀ s' x'
+  pub going_more : (s' : State) (x' : Telling) → Ok tt ≡ faulted t.byte (untold (told_answer s (word_of r t.says))) → s' ≡ after_told s (word_of r t.says) → x' ≡ later x → Going r s₀ x₀ s' x'
   unfolding take_answer after_take
-  going_more s' x' y a b l = rw l (by (word_of r t.says) (faulted_fine _ _ _ a) b fault_first after_first)
+  going_more s' x' a b l = let fine = untold_fine _ (faulted_fine _ _ _ a) in rw l (by (word_of r t.says) fine.0 fine.1 b fault_first after_first)
     where
-      by : (w : Option Word) → Ok y ≡ told_answer s w → s' ≡ after_told s w → stops s (placing t.byte w (placed r (later_than_first x.tokens))) x.fault ≡ stops s₀ (placed r x₀.tokens) x₀.fault → takes_all s (placing t.byte w (placed r (later_than_first x.tokens))) ≡ takes_all s₀ (placed r x₀.tokens) → Going r s₀ x₀ s' (later x)
-      by None a' b' f g = record { fault = ap (λ u. stops u (placed r (later_than_first x.tokens)) x.fault) b' ∙ f; after = ap (λ u. takes_all u (placed r (later_than_first x.tokens))) b' ∙ g }
-      by (Some w) a' b' f g =
+      by : (w : Option Word) (y : Option (ℕ × ℕ)) → Ok y ≡ told_answer s w → s' ≡ after_told s w → stops s (placing t.byte w (placed r (later_than_first x.tokens))) x.fault ≡ stops s₀ (placed r x₀.tokens) x₀.fault → takes_all s (placing t.byte w (placed r (later_than_first x.tokens))) ≡ takes_all s₀ (placed r x₀.tokens) → Going r s₀ x₀ s' (later x)
+      by None y a' b' f g = record { fault = ap (λ u. stops u (placed r (later_than_first x.tokens)) x.fault) b' ∙ f; after = ap (λ u. takes_all u (placed r (later_than_first x.tokens))) b' ∙ g }
+      by (Some w) y a' b' f g =
           let fine = answered_fine (refused s w) s w y a' in
           let to : s' ≡ grown s w = b' ∙ ap (λ o. unless o (grown s w) s) fine in
           record {
@@ -200,10 +209,10 @@ module _ (r : Reading) (s₀ : State) (x₀ : Telling) (s : State) (x : Telling)
             b' ∙ (ap (λ o. unless o (grown s w) s) why ∙ (ap (λ o. grown_by o (takes_all (grown s w) (placed r (later_than_first x.tokens))) s) (sym why) ∙ g)),
           )
 
-  pub going_refused : (s' : State) (f : Fault) → Err f ≡ faulted t.byte (told_answer s (word_of r t.says)) → s' ≡ after_told s (word_of r t.says) → (Some f ≡ stops s₀ (placed r x₀.tokens) x₀.fault) × (s' ≡ takes_all s₀ (placed r x₀.tokens))
+  pub going_refused : (s' : State) (f : Fault) → Err f ≡ faulted t.byte (untold (told_answer s (word_of r t.says))) → s' ≡ after_told s (word_of r t.says) → (Some f ≡ stops s₀ (placed r x₀.tokens) x₀.fault) × (s' ≡ takes_all s₀ (placed r x₀.tokens))
   going_refused s' f a b =
-      let h = faulted_refused t.byte (told_answer s (word_of r t.says)) f a in
-      let there = stopped_there s' h.0 h.1 b in
+      let h = faulted_refused t.byte (untold (told_answer s (word_of r t.says))) f a in
+      let there = stopped_there s' h.0 (untold_refused _ h.0 h.1) b in
       (ap Some h.2 ∙ there.0, there.1)
 
 module _ (r : Reading) (s₀ : State) (x₀ : Telling) (s : State) (x : Telling) (going : Going r s₀ x₀ s x) (none : x.tokens ≡ []) where

@@ -90,6 +90,11 @@ abbrev pub told_answer : State → Option Word → Result (Option (ℕ × ℕ)) 
 told_answer s None = Ok None
 told_answer s (Some w) = told_as (take_answer s w)
 
+-- the same without group and start: that the token is told, or the refusal
+abbrev pub untold : {X : Type 0} → Result X Refusal → Result (Unit {0}) Refusal
+untold (Ok x) = Ok tt
+untold (Err r) = Err r
+
 -- a refusal with the byte of its token
 abbrev pub faulted : {X : Type 0} → ℕ → Result X Refusal → Result X Fault
 faulted at (Ok x) = Ok x

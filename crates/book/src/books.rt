@@ -2,6 +2,7 @@
 ghost use Rattle.std.specs.Prelude.{◌≤◌, List, length, vec_len, vec_capacity};
 ghost use Rattle.std.proofs.Props.{props};
 ghost use Rattle.book.specs.declared.entries.Entry.{Entry};
+ghost use Rattle.book.specs.declared.linking.Index.{Index};
 ghost use Rattle.book.specs.Kept.{LowTops};
 ghost use Rattle.book.specs.Linking.{Indexed};
 
@@ -11,17 +12,15 @@ use registers::Register;
 
 // What a book is doing: taking words, or closed.
 pub trait Stage: Drop {
-    // What its memory has to do with the entries of the words.
-    ghost fits: { Self → List Entry → Type 0 };
+    // What the memory for links and repeats has to do with the entries of the words.
+    ghost fits: { Index → List Entry → Type 0 };
 
-    ghost is_fact: { (s : Self) (es : List Entry) → IsProp (fits s es) };
+    ghost is_fact: { (index : Index) (es : List Entry) → IsProp (fits index es) };
 }
 
 // A book takes words: its memory waits for the closing.
 #[derive(Drop)]
-pub struct Taking {
-    pub(crate) index: Index,
-}
+pub struct Taking;
 
 impl Stage for Taking {
     ghost fits = { λ _ _. Unit {0} };
@@ -31,12 +30,10 @@ impl Stage for Taking {
 
 // A book is closed: its index links each word to the next of its group, and has the first end of each repeat.
 #[derive(Drop)]
-pub struct Closed {
-    pub(crate) index: Index,
-}
+pub struct Closed;
 
 impl Stage for Closed {
-    ghost fits = { λ closed es. Indexed es closed.index.later.items closed.index.firsts.items };
+    ghost fits = { λ index es. Indexed es index.later.items index.firsts.items };
 
     ghost is_fact = { λ _ _. Prim.hlevel props };
 }
@@ -46,12 +43,13 @@ pub struct Book<R: Register, S: Stage> {
     pub(crate) register: R,
     pub(crate) entries: Entries,
     pub(crate) tops: Vec<Entry>,
+    pub(crate) index: Index,
     pub(crate) stage: S,
     ghost few: { length entries ≤ 4096 },
     ghost fewer: { vec_len tops ≤ length entries },
     ghost stacked: { 4096 ≤ vec_capacity tops },
     ghost within: { LowTops tops.items (length entries) },
-    ghost staged: { S.fits stage entries } by { S.is_fact stage entries },
+    ghost staged: { S.fits index entries } by { S.is_fact index entries },
 }
 
 // A book that takes words.

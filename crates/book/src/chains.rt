@@ -39,19 +39,18 @@ fn enter_spelling<R: Register, L: Label>(register: &mut R, number: u32, label: &
 
 // Enters the group numbers of a word's children. Beside the spelling, which a label tells place by place, one function over
 // an iterator of items would be no plainer: it would have to say of any iterator which items it gives.
-fn enter_children<R: Register>(register: &mut R, number: u32, children: &[Entry]) -> u32
+fn enter_children<R: Register>(register: &mut R, mut number: u32, children: &[Entry]) -> u32
     requires { length (R.pairs register.old) + length children.now ≤ R.room register.old }
     ensures enters { Enters (R.pairs register.old) number (groups_of children.now) (R.pairs register.new) result }
     ensures same { R.room register.new ≡ R.room register.old }
 {
-    let mut number = number;
     for child in children {
         number = enter(register, number, child.group);
     }
     number
 }
 
-// The group number of a word over its children: that of its items from 0 on.
+// The group number of a word over its children: that of its items from 0 on. Label and rank come apart, as `take` is given them.
 pub(crate) fn number_word<R: Register, L: Label>(
     register: &mut R,
     label: &L,

@@ -3,9 +3,10 @@ ghost use Rattle.std.specs.Prelude.{◌≡◌, ◌≤◌, [], IfOk, MatchResult,
 ghost use Rattle.book.specs.States.{fresh};
 ghost use Rattle.book.specs.Taken.{Holds};
 ghost use Rattle.book.specs.Books.{held};
+ghost use Rattle.book.specs.Linking.{Indexed};
 ghost use Rattle.book.specs.PassageLaws.{PassageLaws};
 
-use crate::books::{Book, Closed, ClosedBook, Taking, TakingBook};
+use crate::books::{Book, Closed, ClosedBook, Stage, Taking, TakingBook};
 use crate::entries::{Entries, Entry, MOST_WORDS};
 use crate::linking::Index;
 use registers::Register;
@@ -37,28 +38,25 @@ impl<R: Register> Book<R, Taking> {
             register,
             entries,
             tops,
-            stage: Taking { index },
+            index,
+            stage: Taking,
         })
     }
 
     // Closes the book: one pass links its words, one gathers its repeats.
-    pub fn close(self) -> ClosedBook<R>
+    pub fn close(mut self) -> ClosedBook<R>
         ensures { held result ≡ held self }
     {
-        let Book {
-            register,
-            entries,
-            tops,
-            stage,
-        } = self;
-        let Taking { mut index } = stage;
-        index.link(&entries);
-        Book {
-            register,
-            entries,
-            tops,
-            stage: Closed { index },
-        }
+        self.link();
+        self.in_stage(Closed)
+    }
+
+    // Finds the links and the repeats of the words.
+    fn link(&mut self)
+        ensures fits { Indexed self.new.entries self.new.index.later.items self.new.index.firsts.items }
+        ensures same { held self.new ≡ held self.old }
+    {
+        self.index.link(&self.entries);
     }
 }
 
@@ -67,18 +65,30 @@ impl<R: Register> Book<R, Closed> {
     pub fn reopen(self) -> TakingBook<R>
         ensures { held result ≡ held self }
     {
+        self.in_stage(Taking)
+    }
+}
+
+// In either stage.
+impl<R: Register, S: Stage> Book<R, S> {
+    // The same book in a stage that its memory fits.
+    fn in_stage<T: Stage>(self, stage: T) -> Book<R, T>
+        requires { T.fits self.index self.entries }
+        ensures { held result ≡ held self }
+    {
         let Book {
             register,
             entries,
             tops,
-            stage,
+            index,
+            stage: _,
         } = self;
-        let Closed { index } = stage;
         Book {
             register,
             entries,
             tops,
-            stage: Taking { index },
+            index,
+            stage,
         }
     }
 
@@ -90,6 +100,7 @@ impl<R: Register> Book<R, Closed> {
             register,
             entries: _,
             tops: _,
+            index: _,
             stage: _,
         } = self;
         register

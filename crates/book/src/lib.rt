@@ -19,8 +19,8 @@ mod words;
 pub use arrangement::perform_all;
 pub use books::{Book, Closed, ClosedBook, Stage, Taking, TakingBook};
 pub use calls::{Answer, Call};
-// The kinds of label, which stand in a crate of their own.
 pub use entries::MOST_WORDS;
+// The kinds of label, which stand in a crate of their own.
 pub use labels::{
     Bare, FrameLabel, Label, RestLabel, SoundingNote, SyllableLabel, WrittenNote, kind_of,
     same_label,

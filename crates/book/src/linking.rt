@@ -21,6 +21,7 @@ pub struct Listed {
 // The memory in which a closed book finds its repeats: a place for each group number that a register can give,
 // the next word of the same group for each word, and the first end of each repeat.
 // They are tables of positions, since their memory is reserved with the book's.
+// A link of 0 is none, since 0 comes after no position: an `Option<u32>` would double the memory of the links.
 #[derive(Drop)]
 pub(crate) struct Index {
     pub(crate) latest: Vec<u32>,
@@ -31,11 +32,11 @@ pub(crate) struct Index {
     ghost listing: { 4096 ≤ vec_capacity firsts },
 }
 
-// So many places, with 0 in each.
+// So many places, with 0 in each. A function of its own, since the check then weighs the length alone, and not so many zeros.
 fn zeros(heap: Global, count: usize) -> Result<Vec<u32>, AllocError>
     ensures { IfOk result (λ places. vec_len places ≡ count) }
 {
-    Ok(vec![in heap; 0; count]?)
+    vec![in heap; 0; count]
 }
 
 // Closing.
@@ -182,6 +183,7 @@ impl Index {
         requires { length (along self.now.later.items first) ≤ length table.old }
         ensures { table.new ≡ along self.now.later.items first ++ drop (length (along self.now.later.items first)) table.old }
     {
+        // By index, since nothing is known of a slice after an adapter of its `iter_mut`, such as `zip`.
         for (place, end) in self.ends(first).enumerate() {
             table[place] = end;
         }

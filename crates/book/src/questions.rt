@@ -63,7 +63,7 @@ impl<R: Register> Book<R, Closed> {
         ensures value { result ≡ length (repeats_of (held self.now).entries) }
         ensures tells { Tells (held self.now) result repeat_count }
     {
-        count(self.stage.index.firsts.as_slice())
+        count(self.index.firsts.as_slice())
     }
 
     // Lists repeat k: its group number, its size and the count of its ends, all of which the table then begins with, rising.
@@ -74,6 +74,6 @@ impl<R: Register> Book<R, Closed> {
         ensures lists { Tells (held self.now) result (word_listed k (length table.old)) }
         ensures fills { Tells (held self.now) table.new (word_table k table.old) }
     {
-        self.stage.index.list(&self.entries, k, table)
+        self.index.list(&self.entries, k, table)
     }
 }

@@ -5,7 +5,7 @@ ghost use Rattle.labels.specs.Spellings.{rest_spelling, syllable_spelling};
 ghost use Rattle.names.specs.Heard.{said};
 ghost use Rattle.book.specs.Words.{word};
 ghost use Rattle.book.specs.States.{Took};
-ghost use Rattle.book.specs.Readings.{spelled_in, note_in, word_of, told_answer, faulted, after_told, read_answer, after_read, Reads};
+ghost use Rattle.book.specs.Readings.{spelled_in, note_in, word_of, told_answer, untold, faulted, after_told, read_answer, after_read, Reads};
 ghost use Rattle.book.specs.Books.{held};
 
 use crate::books::{Book, Taking};
@@ -30,13 +30,9 @@ impl<R: Register> Book<R, Taking> {
     }
 
     // Takes the word that a token tells, if it tells one, or says at which byte it is refused.
-    fn take_placed(
-        &mut self,
-        reading: Reading,
-        placed: &Placed,
-    ) -> Result<Option<(u32, u32)>, Fault>
+    fn take_placed(&mut self, reading: Reading, placed: &Placed) -> Result<(), Fault>
         requires { malformed (said placed.now.token) ≡ None }
-        ensures answer { result ≡ faulted placed.now.byte (told_answer (held self.old) (word_of reading (said placed.now.token))) }
+        ensures answer { result ≡ faulted placed.now.byte (untold (told_answer (held self.old) (word_of reading (said placed.now.token)))) }
         ensures after { held self.new ≡ after_told (held self.old) (word_of reading (said placed.now.token)) }
     {
         let byte = placed.byte;
@@ -44,24 +40,26 @@ impl<R: Register> Book<R, Taking> {
             .map_err(|refusal| Fault { refusal, byte })
     }
 
-    // Takes the word that a token tells, if it tells one.
-    fn take_token(&mut self, reading: Reading, token: &Token) -> Result<Option<(u32, u32)>, Refusal>
+    // Takes the word that a token tells, if it tells one. What the functions below answer is dropped here, since a reading tells neither groups nor starts.
+    fn take_token(&mut self, reading: Reading, token: &Token) -> Result<(), Refusal>
         requires { malformed (said token.now) ≡ None }
-        ensures answer { result ≡ told_answer (held self.old) (word_of reading (said token.now)) }
+        ensures answer { result ≡ untold (told_answer (held self.old) (word_of reading (said token.now))) }
         ensures after { held self.new ≡ after_told (held self.old) (word_of reading (said token.now)) }
     {
         match token {
-            Token::Naming(_) => Ok(None),
-            Token::Syllable(bytes) => self.take_syllable(reading, bytes).map(Some),
-            Token::Note(note) => self.take_note(reading, note).map(Some),
-            Token::Rest { length } => self.take_rest(reading, *length).map(Some),
-            Token::Frame { keyword, rank } => self
-                .take_as(reading, &FrameLabel::new(*keyword), *rank)
-                .map(Some),
-        }
+            Token::Naming(_) => return Ok(()),
+            Token::Syllable(bytes) => self.take_syllable(reading, bytes)?,
+            Token::Note(note) => self.take_note(reading, note)?,
+            Token::Rest { length } => self.take_rest(reading, *length)?,
+            Token::Frame { keyword, rank } => {
+                self.take_as(reading, &FrameLabel::new(*keyword), *rank)?
+            }
+        };
+        Ok(())
     }
 
     // Takes a syllable, which borrows its bytes from the text.
+    // It answers as `take` does, and so do the next three: `Took` is said of that answer.
     fn take_syllable(&mut self, reading: Reading, bytes: &[u8]) -> Result<(u32, u32), Refusal>
         requires { syllabled bytes.now ≡ true }
         ensures { Took (held self.old) (held self.new) (word 0 (spelled_in reading (syllable_spelling bytes.now))) result }
@@ -95,7 +93,7 @@ impl<R: Register> Book<R, Taking> {
         self.take_as(reading, &RestLabel::new(length).unwrap(), 0)
     }
 
-    // Takes a word with its label, or with none where the reading is bare.
+    // Takes a word with its label, or with none where the reading is bare. Label and rank go to `take` apart, and come so.
     fn take_as<L: Label>(
         &mut self,
         reading: Reading,

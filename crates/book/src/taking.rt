@@ -19,7 +19,8 @@ fn places_for(spelled: u16, rank: u8) -> u32
     2 + u32::from(spelled) + u32::from(rank)
 }
 
-// Whether the register has a place for each item of a word.
+// Whether the register has a place for each item of a word. The longest of the kind comes first, since it spares asking the label's length.
+// Label and rank come apart, as `take` is given them: the label is lent, and a `Node` owns its label.
 fn has_places<R: Register, L: Label>(register: &R, label: &L, rank: u8) -> bool
     ensures { result ≡ nat_le (needs (word rank (L.spelling label.now))) (R.room register.now - length (R.pairs register.now)) }
 {
@@ -49,12 +50,12 @@ impl<R: Register> Book<R, Taking> {
         Ok((entry.group, entry.start))
     }
 
-    // Whether a word may be taken, or the first reason to refuse it.
+    // Whether a word may be taken, or the first reason to refuse it. Label and rank come apart, as `take` is given them.
     #[tactic(auto, unfolding(crate::specs::States::refusal))]
     fn check_word<L: Label>(&self, label: &L, rank: u8) -> Result<(), Refusal>
         ensures { result ≡ allowed (refused (held self.now) (word rank (L.spelling label.now))) }
     {
-        if rank as usize > self.tops.len() {
+        if usize::from(rank) > self.tops.len() {
             return Err(Refusal::RankAboveTops);
         }
         if self.entries.is_full() {
@@ -66,7 +67,7 @@ impl<R: Register> Book<R, Taking> {
         Ok(())
     }
 
-    // Adds a word that is not refused.
+    // Adds a word that is not refused. Label and rank come apart, as `take` is given them.
     fn grow<L: Label>(&mut self, label: &L, rank: u8) -> Entry
         requires ranked { rank ≤ vec_len self.old.tops }
         requires few { length self.old.entries < 4096 }
@@ -75,7 +76,7 @@ impl<R: Register> Book<R, Taking> {
         ensures after { held self.new ≡ grown (held self.old) (word rank (L.spelling label.now)) }
     {
         let position = self.words();
-        let first = self.tops.len() - rank as usize;
+        let first = self.tops.len() - usize::from(rank);
         let children = &self.tops.as_slice()[first..];
         let start = start_of(children, position);
         let group = number_word(&mut self.register, label, rank, children);

@@ -27,7 +27,8 @@ pub enum Said {
     Took(u32),
     Done,
     Told(u32),
-    // The refusal's number in the list that callers print, and for a reading the byte.
+    // The refusal's number in the list that callers print, and for a reading the byte. The number stands here, and not the
+    // refusal, since it is the product's own, and these tests fix which refusal has which.
     Refused(u8),
     Stopped(u8, usize),
     NotAllowed,
@@ -65,9 +66,12 @@ fn said_of(answer: &Answer) -> Said {
 
 fn calls_of<'a>(
     heap: Global,
-    asked: &[Asked<'a>],
+    wanted: &[(Asked<'a>, Said)],
 ) -> Result<Vec<Call<'a, Node<Bare>>>, AllocError> {
-    asked.iter().map(|one| call_of(*one)).collect(heap)
+    wanted
+        .iter()
+        .map(|(asked, _)| call_of(*asked))
+        .collect(heap)
 }
 
 // Performs the calls on a book over the register, which comes back where the answers are the wanted ones.
@@ -75,20 +79,19 @@ pub fn answered<R: Register + Drop>(
     rt: &impl Abort,
     heap: Global,
     register: R,
-    asked: &[Asked],
-    wanted: &[Said],
+    wanted: &[(Asked, Said)],
 ) -> Result<R, Fail> {
-    let calls = calls_of(heap, asked)?;
-    let Ok((register, answers)) = perform_all(heap, register, calls) else {
-        return Err(Fail::new("there is not enough memory"));
-    };
+    let calls = calls_of(heap, wanted)?;
+    let (register, answers) = perform_all(heap, register, calls).map_err(|_register| Fail::new(
+        "there is not enough memory",
+    ))?;
     compare(rt, answers.as_slice(), wanted);
     Ok(register)
 }
 
-fn compare(rt: &impl Abort, answers: &[Answer], wanted: &[Said]) {
+fn compare(rt: &impl Abort, answers: &[Answer], wanted: &[(Asked, Said)]) {
     assert_eq!(rt; answers.len(), wanted.len());
-    for (answer, said) in answers.iter().zip(wanted.iter()) {
+    for (answer, (_, said)) in answers.iter().zip(wanted.iter()) {
         assert_eq!(rt; said_of(answer), *said);
     }
 }
@@ -109,10 +112,9 @@ pub fn both(
     rt: &impl Abort,
     heap: Global,
     places: usize,
-    asked: &[Asked],
-    wanted: &[Said],
+    wanted: &[(Asked, Said)],
 ) -> Result<(), Fail> {
-    let _rows = answered(rt, heap, rows(heap, places)?, asked, wanted)?;
-    let _buckets = answered(rt, heap, buckets(heap, places)?, asked, wanted)?;
+    let _rows = answered(rt, heap, rows(heap, places)?, wanted)?;
+    let _buckets = answered(rt, heap, buckets(heap, places)?, wanted)?;
     Ok(())
 }

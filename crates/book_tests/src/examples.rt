@@ -1,6 +1,6 @@
 // What a book answers on small texts.
 use crate::asking::Asked::*;
-use crate::asking::{Said, answered, both, buckets, rows};
+use crate::asking::{Asked, Said, answered, both, buckets, rows};
 use book::Reading;
 use registers::{Pair, Register};
 use std::alloc::Global;
@@ -16,24 +16,14 @@ fn readings(rt: HostRuntime) -> Result<(), Fail> {
         rt.alloc(),
         100,
         &[
-            Read(Reading::Written, text),
-            Read(Reading::Sounding, text),
-            Read(Reading::Bare, text),
-            Group(0),
-            Group(1),
-            Group(2),
-            Group(3),
-            Group(4),
-        ],
-        &[
-            Said::Took(2),
-            Said::Took(2),
-            Said::Took(2),
-            Said::Told(7),
-            Said::Told(11),
-            Said::Told(15),
-            Said::Told(15),
-            Said::Told(17),
+            (Read(Reading::Written, text), Said::Took(2)),
+            (Read(Reading::Sounding, text), Said::Took(2)),
+            (Read(Reading::Bare, text), Said::Took(2)),
+            (Group(0), Said::Told(7)),
+            (Group(1), Said::Told(11)),
+            (Group(2), Said::Told(15)),
+            (Group(3), Said::Told(15)),
+            (Group(4), Said::Told(17)),
         ],
     )
 }
@@ -46,20 +36,18 @@ fn stopped(rt: HostRuntime) -> Result<(), Fail> {
         rt.alloc(),
         100,
         &[
-            Read(Reading::Written, b"r/4 r/4 bar:3 r/4"),
-            Words,
-            Tops,
-            Read(Reading::Written, b"bar:2 Hes4/4"),
-            Words,
-            Tops,
-        ],
-        &[
-            Said::Stopped(31, 8),
-            Said::Told(2),
-            Said::Told(2),
-            Said::Stopped(13, 6),
-            Said::Told(3),
-            Said::Told(1),
+            (
+                Read(Reading::Written, b"r/4 r/4 bar:3 r/4"),
+                Said::Stopped(31, 8),
+            ),
+            (Words, Said::Told(2)),
+            (Tops, Said::Told(2)),
+            (
+                Read(Reading::Written, b"bar:2 Hes4/4"),
+                Said::Stopped(13, 6),
+            ),
+            (Words, Said::Told(3)),
+            (Tops, Said::Told(1)),
         ],
     )
 }
@@ -71,39 +59,24 @@ fn closed_and_reopened(rt: HostRuntime) -> Result<(), Fail> {
         rt.alloc(),
         100,
         &[
-            Read(Reading::Written, b"bar:0 bar:0"),
-            Repeats,
-            Close,
-            Repeats,
-            Take(2),
-            Close,
-            Reopen,
-            Reopen,
-            Take(2),
-            Take(0),
-            Close,
-            Repeats,
-            Words,
-        ],
-        &[
-            Said::Took(2),
-            Said::NotAllowed,
-            Said::Done,
-            Said::Told(1),
-            Said::NotAllowed,
-            Said::NotAllowed,
-            Said::Done,
-            Said::NotAllowed,
-            Said::Taken(9, 0),
-            Said::Taken(11, 3),
-            Said::Done,
-            Said::Told(1),
-            Said::Told(4),
+            (Read(Reading::Written, b"bar:0 bar:0"), Said::Took(2)),
+            (Repeats, Said::NotAllowed),
+            (Close, Said::Done),
+            (Repeats, Said::Told(1)),
+            (Take(2), Said::NotAllowed),
+            (Close, Said::NotAllowed),
+            (Reopen, Said::Done),
+            (Reopen, Said::NotAllowed),
+            (Take(2), Said::Taken(9, 0)),
+            (Take(0), Said::Taken(11, 3)),
+            (Close, Said::Done),
+            (Repeats, Said::Told(1)),
+            (Words, Said::Told(4)),
         ],
     )
 }
 
-const WANTED: [Said; 2] = [Said::Taken(4, 0), Said::Taken(8, 0)];
+const WANTED: [(Asked, Said); 2] = [(Take(0), Said::Taken(4, 0)), (Take(1), Said::Taken(8, 0))];
 
 // A book over a register that holds a pair, and a second one over the register that the first hands back.
 fn handed_on<R: Register + Drop>(
@@ -116,9 +89,9 @@ fn handed_on<R: Register + Drop>(
         second: 9,
     };
     assert_eq!(rt; register.number(pair), Some(1));
-    let register = answered(rt, heap, register, &[Take(0), Take(1)], &WANTED)?;
+    let register = answered(rt, heap, register, &WANTED)?;
     assert_eq!(rt; register.count(), 8);
-    let register = answered(rt, heap, register, &[Take(0), Take(1)], &WANTED)?;
+    let register = answered(rt, heap, register, &WANTED)?;
     assert_eq!(rt; register.count(), 8);
     Ok(())
 }

@@ -15,16 +15,10 @@ fn words(rt: HostRuntime) -> Result<(), Fail> {
         heap,
         100,
         &[
-            Read(Reading::Bare, &text),
-            Read(Reading::Bare, b"r/1 r/1"),
-            Take(1),
-            Words,
-        ],
-        &[
-            Said::Took(4_095),
-            Said::Stopped(32, 4),
-            Said::Refused(32),
-            Said::Told(4_096),
+            (Read(Reading::Bare, &text), Said::Took(4_095)),
+            (Read(Reading::Bare, b"r/1 r/1"), Said::Stopped(32, 4)),
+            (Take(1), Said::Refused(32)),
+            (Words, Said::Told(4_096)),
         ],
     )
 }
@@ -34,14 +28,13 @@ fn words(rt: HostRuntime) -> Result<(), Fail> {
 fn places(rt: HostRuntime) -> Result<(), Fail> {
     let note = Read(Reading::Written, NOTE);
     let full = Said::Stopped(33, 7);
-    both(&rt, rt.alloc(), 6, &[note], &[full])?;
-    both(&rt, rt.alloc(), 13, &[note, note], &[Said::Took(1), full])?;
+    both(&rt, rt.alloc(), 6, &[(note, full)])?;
+    both(&rt, rt.alloc(), 13, &[(note, Said::Took(1)), (note, full)])?;
     both(
         &rt,
         rt.alloc(),
         14,
-        &[note, note],
-        &[Said::Took(1), Said::Took(1)],
+        &[(note, Said::Took(1)), (note, Said::Took(1))],
     )
 }
 
@@ -53,12 +46,11 @@ fn ranks(rt: HostRuntime) -> Result<(), Fail> {
         &rt,
         heap,
         300,
-        &[Read(Reading::Bare, &text), Take(255), Tops, Take(2)],
         &[
-            Said::Took(255),
-            Said::Taken(261, 0),
-            Said::Told(1),
-            Said::Refused(31),
+            (Read(Reading::Bare, &text), Said::Took(255)),
+            (Take(255), Said::Taken(261, 0)),
+            (Tops, Said::Told(1)),
+            (Take(2), Said::Refused(31)),
         ],
     )
 }
@@ -73,10 +65,9 @@ fn bytes(rt: HostRuntime) -> Result<(), Fail> {
         heap,
         100,
         &[
-            Read(Reading::Written, &text),
-            Read(Reading::Written, &longer),
+            (Read(Reading::Written, &text), Said::Took(0)),
+            (Read(Reading::Written, &longer), Said::Stopped(10, 0)),
         ],
-        &[Said::Took(0), Said::Stopped(10, 0)],
     )
 }
 
@@ -87,30 +78,17 @@ fn positions(rt: HostRuntime) -> Result<(), Fail> {
         rt.alloc(),
         100,
         &[
-            Take(0),
-            Take(1),
-            Group(1),
-            Group(2),
-            Start(1),
-            Start(2),
-            Close,
-            Group(1),
-            Group(2),
-            Start(1),
-            Start(2),
-        ],
-        &[
-            Said::Taken(3, 0),
-            Said::Taken(7, 0),
-            Said::Told(7),
-            Said::Refused(41),
-            Said::Told(0),
-            Said::Refused(41),
-            Said::Done,
-            Said::Told(7),
-            Said::Refused(41),
-            Said::Told(0),
-            Said::Refused(41),
+            (Take(0), Said::Taken(3, 0)),
+            (Take(1), Said::Taken(7, 0)),
+            (Group(1), Said::Told(7)),
+            (Group(2), Said::Refused(41)),
+            (Start(1), Said::Told(0)),
+            (Start(2), Said::Refused(41)),
+            (Close, Said::Done),
+            (Group(1), Said::Told(7)),
+            (Group(2), Said::Refused(41)),
+            (Start(1), Said::Told(0)),
+            (Start(2), Said::Refused(41)),
         ],
     )
 }

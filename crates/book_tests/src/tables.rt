@@ -14,9 +14,9 @@ fn listed(heap: Global, places: usize) -> Result<Answer, Fail> {
         Call::Close,
         Call::List(0, table),
     ]?;
-    let Ok((_register, mut answers)) = perform_all(heap, buckets(heap, 100)?, calls) else {
-        return Err(Fail::new("there is not enough memory"));
-    };
+    let (_register, mut answers) = perform_all(heap, buckets(heap, 100)?, calls).map_err(
+        |_register| Fail::new("there is not enough memory"),
+    )?;
     answers.pop().ok_or_else(|| Fail::new("there is no answer"))
 }
 

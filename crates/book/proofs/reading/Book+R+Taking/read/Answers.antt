@@ -37,7 +37,7 @@ take_placed-requires g c =
 pub loop-placed-preserved : goal.loop-placed-preserved
 loop-placed-preserved g c =
     let took = c.in_ok-take_placed.ensures in
-    going_more _ _ _ _ (unread c.loop-placed.reader) (told_of_placed c.in-Some.placed) c.loop-placed.invariant (first g (goal.at.loop-placed-preserved g c).In-Some) _ _ c.in_ok-take_placed.field-0 took.answer took.after c.next_token.ensures.left
+    going_more _ _ _ _ (unread c.loop-placed.reader) (told_of_placed c.in-Some.placed) c.loop-placed.invariant (first g (goal.at.loop-placed-preserved g c).In-Some) _ _ took.answer took.after c.next_token.ensures.left
 
 pub returns-in_err-placed : goal.returns-in_err-placed
 returns-in_err-placed g c =

@@ -12,7 +12,7 @@ starts : (g : Over) (c : After-start_of-start g) → c.start_of-start.result ≤
 starts g c =
     let s = c.args.self.now in
     let ts = vec_items s.tops in
-    let first = c.len.result - c.args.rank in
+    let first = c.len.result - c.from.result in
     let at = c.words-position.ensures.value in
     let rest : start_over (take (length c.as_slice.result.now - first) (drop first c.as_slice.result.now)) c.words-position.result ≡ start_over (drop first ts) (length s.entries) =
     ap (λ l. start_over l c.words-position.result) (take_rest c.as_slice.result.now first ∙ ap (drop first) c.as_slice.ensures.value) ∙ ap (start_over (drop first ts)) at in
@@ -26,7 +26,7 @@ invariant_of-self g c =
     let s = c.args.self.now in
     let ts = vec_items s.tops in
     let es = s.entries in
-    let first = c.len.result - c.args.rank in
+    let first = c.len.result - c.from.result in
     let e = entry c.number_word-group.result c.start_of-start.result in
     let pushed : length c.push.new.self ≡ length es + 1 = ap length c.push.ensures ∙ length_push es e in
     let topped = c.push_reserved.ensures in
