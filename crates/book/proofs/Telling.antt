@@ -7,7 +7,7 @@ use Rattle.names.specs.declared.refusals.Fault.{Fault}
 use Rattle.names.specs.declared.refusals.Refusal.{Refusal}
 use Rattle.names.specs.declared.refusals.Refusal.TheVariants.{TextTooLong}
 use Rattle.names.specs.Tokens.{Said, token_read}
-use Rattle.names.specs.Texts.{Piece, Told, Telling, pieces, told, telling, text_told, naming_after, first_of, stopped, later_than_first, later}
+use Rattle.names.specs.Texts.{Piece, Told, Telling, pieces, told, telling, text_told, naming_after, stopped, later_than_first, later}
 use Rattle.names.specs.Reader.{opening}
 use Rattle.names.specs.Parted.{Parted, last, next}
 use Rattle.names.proofs.Parting.{parted}
@@ -132,22 +132,6 @@ reads s t r text answer a b =
 pub record Going (r : Reading) (s₀ : State) (x₀ : Telling) (s : State) (x : Telling) : Type 0 where
   pub fault : stops s (placed r x.tokens) x.fault ≡ stops s₀ (placed r x₀.tokens) x₀.fault
   pub after : takes_all s (placed r x.tokens) ≡ takes_all s₀ (placed r x₀.tokens)
-
--- what a first token, an end and a fault say of what is left to tell
-pub first_some : (ts : List Told) (f : Option Fault) (t : Told) → Ok (Some t) ≡ first_of ts f → ts ≡ t ∷ later_than_first ts
-first_some [] None t e = let z : ◌≡◌ {A = ℕ} 0 1 = cc in absurd (omega arith)
-first_some [] (Some f) t e = let z : ◌≡◌ {A = ℕ} 0 1 = cc in absurd (omega arith)
-first_some (u ∷ ts) f t e = cc
-
-pub first_none : (ts : List Told) (f : Option Fault) → Ok None ≡ first_of ts f → (ts ≡ []) × (f ≡ None)
-first_none [] None e = (refl, refl)
-first_none [] (Some f) e = let z : ◌≡◌ {A = ℕ} 0 1 = cc in absurd (omega arith)
-first_none (t ∷ ts) f e = let z : ◌≡◌ {A = ℕ} 0 1 = cc in absurd (omega arith)
-
-pub first_fails : (ts : List Told) (f : Option Fault) (g : Fault) → Err g ≡ first_of ts f → (ts ≡ []) × (f ≡ Some g)
-first_fails [] None g e = let z : ◌≡◌ {A = ℕ} 0 1 = cc in absurd (omega arith)
-first_fails [] (Some f) g e = (refl, cc)
-first_fails (t ∷ ts) f g e = let z : ◌≡◌ {A = ℕ} 0 1 = cc in absurd (omega arith)
 
 -- a taking that is answered, and one that is refused
 answered_fine : (o : Option Refusal) (s : State) (w : Word) (y : Option (ℕ × ℕ)) → Ok y ≡ told_as (answered o (taken s w)) → o ≡ None

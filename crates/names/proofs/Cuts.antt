@@ -157,7 +157,7 @@ module _ (g : Bool) (text : List ℕ) (at : ℕ) where
             unanswered _ g (ap answers (sym b) ∙ p);
       }
 
--- what a first token and an end say of what is left to tell
+-- what a first token, an end and a fault say of what is left to tell
 pub first_some : (ts : List Told) (f : Option Fault) (t : Told) → Ok (Some t) ≡ first_of ts f → ts ≡ t ∷ later_than_first ts
 first_some [] None t e = absurd (grind arith)
 first_some [] (Some f) t e = absurd (grind arith)
@@ -167,3 +167,8 @@ pub first_none : (ts : List Told) (f : Option Fault) → Ok None ≡ first_of ts
 first_none [] None e = (refl, refl)
 first_none [] (Some f) e = absurd (grind arith)
 first_none (u ∷ ts) f e = absurd (grind arith)
+
+pub first_fails : (ts : List Told) (f : Option Fault) (g : Fault) → Err g ≡ first_of ts f → (ts ≡ []) × (f ≡ Some g)
+first_fails [] None g e = absurd (grind arith)
+first_fails [] (Some f) g e = (refl, cc)
+first_fails (u ∷ ts) f g e = absurd (grind arith)

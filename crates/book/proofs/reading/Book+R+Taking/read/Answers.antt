@@ -6,7 +6,8 @@ use Rattle.names.specs.Texts.{pieces, text_told, later_than_first}
 use Rattle.names.proofs.Lines.{told_formed}
 use Rattle.book.specs.Books.{held}
 use Rattle.book.specs.Readings.{placed, text_words, stops, takes_all}
-use Rattle.book.proofs.Telling.{going_more, going_refused, going_end, first_some, first_none, first_fails, opened_fine, read_after, read_ended, read_counted, reads}
+use Rattle.names.proofs.Cuts.{first_some, first_none, first_fails}
+use Rattle.book.proofs.Telling.{going_more, going_refused, going_end, opened_fine, read_after, read_ended, read_counted, reads}
 use Rattle.book.proofs.reading.Book+R+Taking.read.Given.{Over}
 use Rattle.book.proofs.reading.Book+R+Taking.read.Goals as goal
 use Rattle.book.proofs.reading.Book+R+Taking.read.Goals.{In_ok-reader, In-Some, In_default}
