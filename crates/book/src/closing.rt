@@ -51,7 +51,7 @@ impl<R: Register> Book<R, Taking> {
         self.in_stage(Closed)
     }
 
-    // Finds the links and the repeats of the words.
+    // Finds the links and the repeats of the words. By itself, since fields are lent apart of a book that is lent, and not yet of one that is owned.
     fn link(&mut self)
         ensures fits { Indexed self.new.entries self.new.index.later.items self.new.index.firsts.items }
         ensures same { held self.new ≡ held self.old }
