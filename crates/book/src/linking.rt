@@ -10,7 +10,8 @@ use names::Refusal;
 use registers::MOST_PAIRS;
 use std::alloc::{AllocError, Global};
 
-// What is listed of a repeat: the group, the size of each of its passages, and how many ends it has.
+// What is listed of a repeat: the group, the size of each of its passages, and how many ends it has. The ends themselves stand
+// in the table that the caller gives.
 #[derive(Clone, Copy)]
 pub struct Listed {
     pub group: u32,

@@ -28,8 +28,8 @@ struct Entered<'a> {
     verb: Verb,
 }
 
-// The calls of a session, each as it was typed and as it is performed, and whether a line was none. The two rows stand apart,
-// since the calls go into the performing, and what was typed stays to be printed.
+// The calls of a session, each as it was typed and as it is performed, and whether a line was none, which is named at once.
+// The two rows stand apart, since the calls go into the performing, and what was typed stays to be printed.
 #[derive(Drop)]
 struct Session<'a> {
     typed: Vec<Entered<'a>>,
@@ -37,6 +37,7 @@ struct Session<'a> {
     stray: bool,
 }
 
+// As in `rename`: no library lies beneath both programs alone.
 fn main(rt: HostRuntime) -> anyhow::Result<ExitCode> {
     match run(&rt) {
         Ok(()) => Ok(ExitCode::SUCCESS),

@@ -27,6 +27,7 @@ standard error, the others are performed all the same, and the status is 1.
   --capacity N    places of the register under the book (32768 if nothing is said)
   --help          say this";
 
+// What was asked for. Each option may stand beside the others in any order, `--help` too.
 #[derive(Clone, Copy)]
 pub struct Options {
     pub plain: bool,

@@ -20,6 +20,7 @@ pub enum Verb {
     List,
 }
 
+// An enum has no list of its own values.
 static VERBS: [Verb; 13] = [
     Verb::Read,
     Verb::Written,

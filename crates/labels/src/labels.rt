@@ -30,7 +30,7 @@ pub trait Label {
     fn spelled_len(&self) -> u16
         ensures { result ≡ length (spelling self.now) };
 
-    // The number at a place of the spelling, from 0, and 0 past its end.
+    // The number at a place of the spelling, from 0, and 0 past its end. As an `Option` it would say what `spelled_len` says.
     fn spelled_at(&self, place: u16) -> u16
         ensures { result ≡ slice_index (spelling self.now) place };
 }

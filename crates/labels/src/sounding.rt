@@ -39,7 +39,7 @@ fn sounding_raised(pitch: Pitch, octave: u8) -> u8
     12 * octave + half_tones(pitch.step) + pitch.alteration as u8
 }
 
-// The half tones from C up to each step.
+// The half tones from C up to each step, by its number. A `match` would say it in seven lines.
 static HALF_TONES: [u8; 7] = [0, 2, 4, 5, 7, 9, 11];
 
 fn half_tones(step: Step) -> u8

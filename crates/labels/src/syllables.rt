@@ -37,7 +37,7 @@ impl SyllableLabel<'_> {
     }
 }
 
-// A syllable has 1 to 30 bytes.
+// A syllable has 1 to 30 bytes. A typed one is judged in `names`, by which bytes they are as well.
 fn is_syllable(bytes: &[u8]) -> bool
     ensures { result ≡ syllabic bytes.now }
 {

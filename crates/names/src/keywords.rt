@@ -22,7 +22,7 @@ pub enum Keyword {
     Organ,
 }
 
-// The keywords, by number.
+// The keywords, by number. An enum has no list of its own values.
 static KEYWORDS: [Keyword; 12] = [
     Keyword::Bar,
     Keyword::Verse,

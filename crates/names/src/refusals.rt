@@ -38,7 +38,8 @@ pub enum Layer {
     Sheet,
 }
 
-// A refusal and where it was met: the byte where its token begins, or 0 where no token is at fault.
+// A refusal and where it was met: the byte where its token begins, or 0 where no token is at fault. As an `Option` of a byte it
+// would leave everyone who prints it to say that 0.
 #[derive(Clone, Copy, PartialEq, Eq, Debug)]
 pub struct Fault {
     pub refusal: Refusal,

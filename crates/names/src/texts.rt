@@ -35,7 +35,7 @@ pub struct Reader<'a> {
     naming: Option<Naming>,
 }
 
-// How many bytes at the front are gaps, or are none.
+// How many bytes at the front are gaps, or are none. A flag and no closure, since its two answers are all that is asked for.
 fn run_len(bytes: &[u8], gaps: bool) -> usize
     ensures value { result ≡ run (λ b. same_answer (gap b) gaps) bytes.now }
     ensures within { result ≤ length bytes.now }

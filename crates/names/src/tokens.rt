@@ -102,7 +102,7 @@ fn read_rest<'a>(bytes: &'a [u8]) -> Result<Token<'a>, Refusal>
     Ok(Token::Rest { length })
 }
 
-// How many bytes stand before the first colon.
+// How many bytes stand before the first colon. `typed` finds a space so, but does not lie beneath this crate.
 fn before_colon(bytes: &[u8]) -> usize
     ensures value { result ≡ colon bytes.now }
     ensures within { result ≤ length bytes.now }

@@ -16,6 +16,7 @@ What cannot be read is refused in one line, such as `refused 22 byte 7`, with
 the reason in words, on standard error; nothing is rewritten then, and the
 status is 1.";
 
+// What was asked for. Each option may stand beside the others in any order, `--help` too.
 #[derive(Drop)]
 pub struct Options {
     pub to: Naming,
