@@ -96,7 +96,7 @@ impl<R: Register> AnyBook<R> {
         ensures room { R.room result ≡ (stand_of self).held.room }
     {
         match self {
-            AnyBook::Taking(taking) => taking.into_register(),
+            AnyBook::Taking(taking) => taking.close().into_register(),
             AnyBook::Closed(closed) => closed.into_register(),
         }
     }

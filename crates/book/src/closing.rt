@@ -67,6 +67,20 @@ impl<R: Register> Book<R, Closed> {
     {
         self.in_stage(Taking)
     }
+
+    // Gives the register back.
+    pub fn into_register(self) -> R
+        ensures { result ≡ self.register }
+    {
+        let Book {
+            register,
+            entries: _,
+            tops: _,
+            index: _,
+            stage: _,
+        } = self;
+        register
+    }
 }
 
 // In either stage.
@@ -90,19 +104,5 @@ impl<R: Register, S: Stage> Book<R, S> {
             index,
             stage,
         }
-    }
-
-    // Gives the register back.
-    pub fn into_register(self) -> R
-        ensures { result ≡ self.register }
-    {
-        let Book {
-            register,
-            entries: _,
-            tops: _,
-            index: _,
-            stage: _,
-        } = self;
-        register
     }
 }
