@@ -155,6 +155,12 @@ run 1
 says "$work/out" "two lines that are no calls" '   2  words' '      0 words'
 says "$work/err" "two lines that are no calls" 'line 1: not a call: no' 'line 3: not a call: neither' 'lines that are no calls were passed over'
 
+# Bytes that are no UTF-8: a syllable may have them, and a line with them that is no call takes no other with it.
+printf 'read "\374"\nno\377\nwords\n' >"$work/in"
+run 1
+says "$work/out" "calls with any bytes" $'   1  read "\357\277\275"' '      took 1 word' '   3  words' '      1 word'
+says "$work/err" "a line of any bytes that is no call" $'line 2: not a call: no\357\277\275' 'lines that are no calls were passed over'
+
 # The command line.
 : >"$work/in"
 run 0 --help
