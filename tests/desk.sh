@@ -155,11 +155,13 @@ run 1
 says "$work/out" "two lines that are no calls" '   2  words' '      0 words'
 says "$work/err" "two lines that are no calls" 'line 1: not a call: no' 'line 3: not a call: neither' 'lines that are no calls were passed over'
 
-# Bytes that are no UTF-8: a syllable may have them, and a line with them that is no call takes no other with it.
-printf 'read "\374"\nno\377\nwords\n' >"$work/in"
-run 1
-says "$work/out" "calls with any bytes" $'   1  read "\357\277\275"' '      took 1 word' '   3  words' '      1 word'
-says "$work/err" "a line of any bytes that is no call" $'line 2: not a call: no\357\277\275' 'lines that are no calls were passed over'
+# A line that is no UTF-8 ends the session before a call of it is performed.
+for line in 'read "\374"' 'no\377' '# \377'; do
+    printf "words\n$line\nwords\n" >"$work/in"
+    run 1
+    silent "$work/out" "performed a session that is no UTF-8: $line"
+    says "$work/err" "a line that is no UTF-8: $line" 'stream did not contain valid UTF-8'
+done
 
 # The command line.
 : >"$work/in"

@@ -24,7 +24,7 @@ const BUCKETS: usize = 32_768;
 #[derive(Clone, Copy)]
 struct Entered<'a> {
     line: usize,
-    text: &'a [u8],
+    text: &'a str,
     verb: Verb,
 }
 
@@ -76,19 +76,18 @@ fn hold(rt: &HostRuntime, options: Options) -> anyhow::Result<()> {
     Ok(())
 }
 
-// The lines as bytes, since a syllable may have any but a quote, a gap and a line end.
-fn read_lines(rt: &HostRuntime) -> io::Result<Vec<Vec<u8>>> {
+fn read_lines(rt: &HostRuntime) -> io::Result<Vec<String>> {
     BufReader::new(rt.alloc(), rt.stdin())?
-        .split(rt.alloc(), b'\n')
+        .lines(rt.alloc())
         .try_collect(rt.alloc())
 }
 
 // The calls of the lines. A line that is none is named at once, and the others count all the same.
-fn read_session<'a>(rt: &HostRuntime, lines: &'a [Vec<u8>]) -> io::Result<Session<'a>> {
+fn read_session<'a>(rt: &HostRuntime, lines: &'a [String]) -> io::Result<Session<'a>> {
     let mut session = Session::new(rt.alloc());
     for (number, line) in (1usize..).zip(lines.iter()) {
-        let text = line.as_slice().trim_ascii();
-        if !text.is_empty() && !text.starts_with(b"#") {
+        let text = line.as_str().trim_ascii();
+        if !text.is_empty() && !text.starts_with("#") {
             session.enter(rt, number, text)?;
         }
     }
@@ -104,15 +103,14 @@ impl<'a> Session<'a> {
         }
     }
 
-    fn enter(&mut self, rt: &HostRuntime, line: usize, text: &'a [u8]) -> io::Result<()> {
-        match read_call(rt.alloc(), text) {
+    fn enter(&mut self, rt: &HostRuntime, line: usize, text: &'a str) -> io::Result<()> {
+        match read_call(rt.alloc(), text.as_bytes()) {
             Ok((verb, call)) => {
                 self.typed.push(Entered { line, text, verb })?;
                 self.calls.push(call)?;
             }
             Err(stray) => {
                 self.stray = true;
-                let text = String::from_utf8_lossy(rt.alloc(), text)?;
                 eprintln!(rt; "line {line}: not a call: {text}{stray}")?;
             }
         }
@@ -151,7 +149,7 @@ fn print_answers(
 // The call after the number of its line. Its answer is set in to stand under it.
 fn print_call(rt: &HostRuntime, call: &Entered) -> io::Result<()> {
     let line = call.line;
-    let text = String::from_utf8_lossy(rt.alloc(), call.text)?;
+    let text = call.text;
     print!(rt; "{line:>4}  {text}\n      ")
 }
 
