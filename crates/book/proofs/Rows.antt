@@ -1,6 +1,6 @@
 -- Rows as lists, as code holds them. Assumes nothing.
 use Rattle.std.proofs.Common.{◌≡◌, ℕ, zero, suc, ◌+◌, ◌-◌, ◌<◌, ◌≤◌, List, [], ◌∷◌, ◌++◌, map, length, get_or, take, drop, sym, refl, ap, ◌∙◌, arith}
-use Rattle.std.proofs.lemmas.List.{length_push, map_push, take-append-le, drop-append-le, take_all, drop_all, drop-map, length-take}
+use Rattle.std.proofs.lemmas.List.{length_push, map_push, take-append-le, drop-append-le, take_all, drop_all, take-map, drop-map, length-take}
 use Rattle.book.specs.Words.{Word}
 use Rattle.registers.specs.declared.pairs.Pair.{Pair}
 use Rattle.book.specs.Passages.{Passage, Row, none, ◌▹◌, count, last, without_last, size, sizes}
@@ -40,6 +40,12 @@ without_last_in_order (suc n) (row ▹ t) h =
 pub groups_last : (qs : List Pair) (n : ℕ) (row : Row) → n ≤ count row → groups qs (last n row) ≡ drop (count row - n) (groups qs row)
 groups_last qs n row h = simp groups_in_order (ap (map (group qs)) (last_in_order n row h) ∙ sym (drop-map (group qs) (count row - n) (in_order row)))
 
+groups_without_last : (qs : List Pair) (n : ℕ) (row : Row) → n ≤ count row → groups qs (without_last n row) ≡ take (count row - n) (groups qs row)
+groups_without_last qs n row h = groups_in_order qs (without_last n row) ∙ ap (map (group qs)) (without_last_in_order n row h) ∙ sym (take-map (group qs) (count row - n) (in_order row)) ∙ ap (take (count row - n)) (sym (groups_in_order qs row))
+
+pub groups_push : (qs : List Pair) (row : Row) (w : Word) → w.rank ≤ count row → groups qs (push row w) ≡ take (count row - w.rank) (groups qs row) ++ group qs (made row w) ∷ []
+groups_push qs row w h = ap (λ l. l ++ group qs (made row w) ∷ []) (groups_without_last qs w.rank row h)
+
 -- every passage of the words, in the order of their ends
 abbrev pub passages : Row → List Word → List Passage
 passages row [] = []
@@ -49,6 +55,10 @@ pub get_or_passages : (row : Row) (ws : List Word) (p : ℕ) (d : Passage) → p
 get_or_passages row [] p d h = absurd (omega arith)
 get_or_passages row (w ∷ ws) zero d h = refl
 get_or_passages row (w ∷ ws) (suc p) d h = get_or_passages (push row w) ws p d (omega arith)
+
+pub passages_push : (row : Row) (ws : List Word) (w : Word) → passages row (ws ++ w ∷ []) ≡ passages row ws ++ made (reading row ws) w ∷ []
+passages_push row [] w = refl
+passages_push row (v ∷ ws) w = ap (λ l. made row v ∷ l) (passages_push (push row v) ws w)
 
 -- Where each passage of a row starts.
 abbrev pub starts : Row → List ℕ
@@ -70,6 +80,10 @@ sizes_reading row (w ∷ ws) = omega (arith, sizes_reading (push row w) ws, size
 -- The first child's start is the word's; a word with no child starts at itself.
 pub start_of_made : (row : Row) (w : Word) → suc (sizes row) - size (made row w) ≡ sizes (without_last w.rank row)
 start_of_made row w = omega (arith, sizes_split w.rank row)
+
+pub length_starts : (row : Row) → length (starts row) ≡ count row
+length_starts none = refl
+length_starts (row ▹ t) = omega (arith, length_push (starts row) (sizes row), length_starts row)
 
 -- a passage's start and its size lead to its end
 size_top : (row : Row) → 0 < count row → size (top row) ≤ sizes row

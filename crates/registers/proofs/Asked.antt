@@ -44,7 +44,7 @@ one_pair qs p q m n e f g =
 pub one_number : (qs : List Pair) (p q : Pair) (m n : ℕ) → number_in qs p ≡ Some m → number_in qs q ≡ Some n → p ≡ q → m ≡ n
 one_number qs p q m n e f g = let h = sym e ∙ (ap (number_in qs) g ∙ f) in cc
 
-law : (room : ℕ) (start asked qs : List Pair) → qs ≡ holding_all room start asked → Apart qs → Law room asked (numbers room start asked) qs
+pub law : (room : ℕ) (start asked qs : List Pair) → qs ≡ holding_all room start asked → Apart qs → Law room asked (numbers room start asked) qs
 law room start asked qs is apart =
     let last : (i n : ℕ) → i < length asked → get_or (numbers room start asked) i None ≡ Some n → number_in qs (at asked i) ≡ Some n =
     λ i n l e. rw is (numbers_last room start asked i n l e) in

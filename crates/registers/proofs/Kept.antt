@@ -27,7 +27,7 @@ module _ (s : Buckets) where
   pub count_is : length (pairs_of s) ≡ length slots
   count_is = length-map slots (λ (x : Slot). x.pair)
 
-  few : length (pairs_of s) ≤ 32768
+  pub few : length (pairs_of s) ≤ 32768
   few = omega (arith, count_is, length-take s.held.count (vec_items s.held.table), s.held.most)
 
   pub head_read : (b x : ℕ) → b < buckets → x ≡ get_or (vec_items s.heads) b x → x ≡ last_in buckets (pairs_of s) b (length (pairs_of s))

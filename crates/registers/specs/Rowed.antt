@@ -5,7 +5,8 @@ use Rattle.std.specs.declared.alloc.Global.{Global}
 use Rattle.registers.specs.declared.pairs.Pair.{Pair}
 use Rattle.registers.specs.declared.by_rows.Rows.{Rows}
 use Rattle.registers.specs.Pairs.{Apart, Sound}
-use Rattle.registers.specs.Places.{places_of, within_limit, limit_of}
+use Rattle.registers.specs.Places.{places_of, limit_of}
+pub use Rattle.registers.specs.Places.{within_limit}
 
 abbrev pub pairs_of : Rows → List Pair
 pairs_of s = places_of s.held
